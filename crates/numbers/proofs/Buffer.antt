@@ -1,0 +1,43 @@
+-- A buffer that is written from the right: what stands up to a place is old, and what is behind it is new.
+use mathlib.Core.Path.{_≡_, refl, ap, sym, _∙_}
+use mathlib.Core.Bool.{Bool, true, false, cond}
+use mathlib.Core.List.{List, [], _∷_, _++_, append-assoc}
+use Prim.Native.Nat.{ℕ, _+_, _≤_}
+use native.Mathlib.Nat.{zero-add}
+use native.Mathlib.Omega.{arith}
+use lib.ListN.{length, take, drop, set, length-append, length-drop}
+use lib.Seq.{sets, sets-eq, take-append-le, take-take, drop-at, take-at, drop-drop, length-take-le}
+
+-- a run of bytes that ends where the new part starts makes it longer
+pub prepend : (old new xs : List ℕ) (at end : ℕ) → at + length xs ≡ end → end ≤ length old
+    → sets (take end old ++ new) at xs ≡ take at old ++ (xs ++ new)
+prepend old new xs at end meet fits =
+    let head : length (take end old) ≡ end = length-take-le end old fits in
+    let room : at + length xs ≤ length (take end old ++ new) = rw (length-append, head) (omega arith) in
+    let first : take at (take end old ++ new) ≡ take at old =
+    take-append-le at (take end old) new (rw head (omega arith)) ∙ take-take at end old (omega arith) in
+    let last : drop (at + length xs) (take end old ++ new) ≡ new = rw meet (drop-at (take end old) new end head) in
+    sets-eq xs (take end old ++ new) at room ∙ rw (first, last) (append-assoc (take at old) xs new)
+
+-- one byte that may be wanted
+pub sets-if : (wanted : Bool) (l : List ℕ) (at x : ℕ) → cond wanted (set l at x) l ≡ sets l at (cond wanted (x ∷ []) [])
+sets-if true l at x = refl
+sets-if false l at x = refl
+
+-- a middle, then a sign before it, then an end behind both: the whole string, and the rest as it was
+pub assembled : (old sign middle end : List ℕ) (len : ℕ) → len ≡ length sign + length middle → len + length end ≤ length old
+    → sets (sets (take (length sign) old ++ (middle ++ drop len old)) 0 sign) len end ≡ (sign ++ middle) ++ (end ++ drop (len + length end) old)
+assembled old sign middle end len meet fits =
+    let front : List ℕ = sign ++ middle in
+    let long : length front ≡ len = length-append sign middle ∙ sym meet in
+    let signed : sets (take (length sign) old ++ (middle ++ drop len old)) 0 sign ≡ front ++ drop len old =
+    prepend old (middle ++ drop len old) sign 0 (length sign) (zero-add (length sign)) (omega arith)
+    ∙ sym (append-assoc sign middle (drop len old)) in
+    let room : len + length end ≤ length (front ++ drop len old) = simp (length-append, long, length-drop) (omega arith) in
+    let first : take len (front ++ drop len old) ≡ front = take-at front (drop len old) len long in
+    let last : drop (len + length end) (front ++ drop len old) ≡ drop (len + length end) old =
+    sym (drop-drop (length end) len (front ++ drop len old))
+    ∙ ap (drop (length end)) (drop-at front (drop len old) len long)
+    ∙ drop-drop (length end) len old in
+    ap (λ l. sets l len end) signed ∙ sets-eq end (front ++ drop len old) len room
+    ∙ rw (first, last) (append-assoc front end (drop (len + length end) old))

@@ -1,0 +1,108 @@
+-- Laws of the digits: how many there are, and the room that they take.
+use mathlib.Core.Path.{_≡_, refl, ap, sym, _∙_}
+use mathlib.Core.Bool.{Bool, true, false, cond, _&&_}
+use mathlib.Core.List.{List, [], _∷_}
+use Prim.Native.Nat.{ℕ, zero, suc, _+_, _-_, _*_, _/_, _%_, _^_, _≤_, _<_}
+use native.Mathlib.Nat.{pow-zero, pow-suc, mul-le-mul, pow-le-pow-left, pow-le-pow-right}
+use native.Mathlib.Numerals.{add-one}
+use native.Mathlib.Decide.{decLt}
+use native.Mathlib.Omega.{arith}
+use lib.Dec.{ltb, eqb}
+use lib.ListN.{length, length-append}
+use borrow.Author.Tests.{lt-ltb, le-ltb, ltb-true, ltb-false, eqb-true, eqb-false}
+use Rattle.numbers.specs.Digits.{gapped, gap, digits, enough, digitCount}
+use Rattle.numbers.specs.Steps.{spreadOf, charactersOf}
+use Rattle.numbers.specs.Strings.{radix, negative, magnitude, count, minus, string}
+use Rattle.numbers.specs.declared.forms.Base.{Base}
+use Rattle.numbers.specs.declared.forms.Base.the-variants.{Two, Ten, Sixteen}
+use Rattle.numbers.specs.declared.forms.Form.{Form}
+
+pub radix-range : (b : Base) → (2 ≤ radix b) × (radix b ≤ 16)
+radix-range Two = omega arith
+radix-range Ten = omega arith
+radix-range Sixteen = omega arith
+
+-- as many digits as a number's own value are more than enough for it
+pub below-power : (b k : ℕ) → 2 ≤ b → k < b ^ k
+below-power b zero h = rw pow-zero (omega arith)
+below-power b (suc k) h = rw pow-suc (omega (arith, mul-le-mul (below-power b k h) h))
+
+pub enough-here : (b n more k : ℕ) → n < b ^ k → enough b n more k ≡ k
+unfolding enough
+enough-here b n zero k h = refl
+enough-here b n (suc more) k h = rw (lt-ltb n (b ^ k) h)
+
+enough-later : (b n more k : ℕ) → b ^ k ≤ n → enough b n (suc more) k ≡ enough b n more (suc k)
+unfolding enough
+enough-later b n more k h = rw (le-ltb n (b ^ k) h)
+
+pub gap-one : (s : Bool) (k : ℕ) → gapped s k ≡ true → gap s k ≡ 32 ∷ []
+gap-one s k h = ap (λ g. cond g (32 ∷ []) []) h
+
+-- no more digits than any number of them that is enough
+pub enough-least : (b n more k m : ℕ) → 0 < b → n < b ^ m → k ≤ m → enough b n more k ≤ m
+unfolding enough
+enough-least b n zero k m pos high h = h
+enough-least b n (suc more) k m pos high h = go (ltb n (b ^ k)) refl (enough-least b n more (suc k) m pos high)
+  where
+    higher : b ^ k ≤ n → Dec (k < m) → k < m
+    higher low (yes p) = p
+    higher low (no p) = absurd (omega (arith, pow-le-pow-right pos {i = m} {j = k} (omega (arith, p))))
+
+    go : (t : Bool) → ltb n (b ^ k) ≡ t → (k < m → enough b n more (suc k) ≤ m) → cond t k (enough b n more (suc k)) ≤ m
+    go true e rest = h
+    go false e rest = rest (higher (ltb-false n (b ^ k) e) (decLt k m))
+
+-- one step of the definition's own walk to the number of digits
+pub enough-next : (b n more k : ℕ) → 2 ≤ b → b ^ k ≤ n → k + more ≡ n + 1
+    → (m : ℕ) × (k + 1 + m ≡ n + 1) × (enough b n more k ≡ enough b n m (k + 1))
+enough-next b n zero k two low e = absurd (omega (arith, below-power b k two))
+enough-next b n (suc m) k two low e = (m, omega arith, enough-later b n m k low ∙ ap (enough b n m) (sym (add-one k)))
+
+-- the room for one digit more, with the space behind it
+pub spread-suc : (s : Bool) (k : ℕ) → spreadOf s (suc k) ≡ suc (length (gap s k) + spreadOf s k)
+spread-suc false k = omega arith
+spread-suc true k = go (ltb 0 k) (eqb (k % 3) 0) refl refl
+  where
+    go : (p q : Bool) → ltb 0 k ≡ p → eqb (k % 3) 0 ≡ q
+        → suc k + (suc k - 1) / 3 ≡ suc (length {A = ℕ} (cond (p && q) (32 ∷ []) []) + (k + (k - 1) / 3))
+    go true true e f = omega (arith, ltb-true 0 k e, eqb-true (k % 3) 0 f)
+    go true false e f = omega (arith, ltb-true 0 k e, eqb-false (k % 3) 0 f)
+    go false q e f = omega (arith, ltb-false 0 k e)
+
+pub spread-mono : (s : Bool) {k m : ℕ} → k ≤ m → spreadOf s k ≤ spreadOf s m
+spread-mono false h = h
+spread-mono true h = omega arith
+
+pub spread-zero : (s : Bool) → 0 ≡ spreadOf s 0
+spread-zero false = refl
+spread-zero true = refl
+
+pub digits-length : (b : ℕ) (s : Bool) (k n : ℕ) → length (digits b s k n) ≡ spreadOf s k
+unfolding digits
+digits-length b s zero n = spread-zero s
+digits-length b s (suc k) n =
+    ap suc (length-append (gap s k) (digits b s k n) ∙ ap (λ m. length (gap s k) + m) (digits-length b s k n))
+    ∙ sym (spread-suc s k)
+
+-- a 32-bit number has at most 32 digits in any base
+pub count-small : (form : Form) (n : ℕ) → n < 2 ^ 32 → form .fixed ≤ 255 → count form n ≤ 255
+count-small form n word small = go (eqb (form .fixed) 0)
+  where
+    base : (2 ≤ radix (form .base)) × (radix (form .base) ≤ 16)
+    base = radix-range (form .base)
+
+    high : n < radix (form .base) ^ 32
+    high = omega (arith, pow-le-pow-left (base .0) 32)
+
+    go : (t : Bool) → cond t (digitCount (radix (form .base)) n) (form .fixed) ≤ 255
+    go true = omega (arith, enough-least (radix (form .base)) n n 1 32 (omega (arith, base)) high (omega arith))
+    go false = small
+
+pub string-length : (form : Form) (value : ℕ) → length (string form value) ≡ charactersOf form (negative form value) (magnitude form value)
+unfolding string
+string-length form value =
+    let n = magnitude form value in
+    let b = radix (form .base) in
+    length-append (minus (negative form value)) (digits b (form .spaced) (count form n) n)
+    ∙ ap (λ m. length (minus (negative form value)) + m) (digits-length b (form .spaced) (count form n) n)

@@ -1,0 +1,119 @@
+// What a call writes: a form, and the size and sign of its string for a value.
+ghost use mathlib.Core.Path.{_≡_};
+ghost use Prim.Native.Nat.{_/_, _%_, _^_};
+ghost use Rattle.numbers.specs.Digits.{glyph};
+ghost use Rattle.numbers.specs.Strings.{radix, bits};
+
+pub enum Base {
+    Two,
+    Ten,
+    Sixteen,
+}
+
+// How much of the value a call uses, from the low end.
+pub enum Width {
+    Nibble,
+    Byte,
+    TwoBytes,
+    ThreeBytes,
+    Word,
+}
+
+// What a call writes. Every form is a sound one, so nothing that takes one asks anything of it.
+pub struct Form {
+    pub base: Base,
+    // How many digits, leading zeros kept; 0: as many as the number has.
+    pub fixed: u8,
+    pub width: Width,
+    // Two's complement of the width, with a minus where it is negative.
+    pub signed: bool,
+    // A space between groups of three digits, counted from the right.
+    pub spaced: bool,
+    // A zero byte behind the string.
+    pub terminated: bool,
+}
+
+impl Base {
+    pub fn radix(self) -> u32
+        ensures { λ r. ⌜ r ≡ radix self ⌝ }
+    {
+        match self {
+            Base::Two => 2,
+            Base::Ten => 10,
+            Base::Sixteen => 16,
+        }
+    }
+
+    // Division by a number that is known in each arm, which is the fast one.
+    pub fn shrink(self, n: u32) -> u32
+        ensures { λ r. ⌜ r ≡ n / radix self ⌝ }
+    {
+        match self {
+            Base::Two => n / 2,
+            Base::Ten => n / 10,
+            Base::Sixteen => n / 16,
+        }
+    }
+
+    // The last digit of n.
+    fn last_digit(self, n: u32) -> u32
+        ensures { λ r. ⌜ r ≡ n % radix self ⌝ }
+    {
+        match self {
+            Base::Two => n % 2,
+            Base::Ten => n % 10,
+            Base::Sixteen => n % 16,
+        }
+    }
+
+    // The last digit of n, as a byte.
+    pub fn last_glyph(self, n: u32) -> u8
+        ensures { λ r. ⌜ r ≡ glyph (n % radix self) ⌝ }
+    {
+        let digit = self.last_digit(n);
+        if digit < 10 {
+            return (48 + digit) as u8;
+        }
+        (55 + digit) as u8
+    }
+}
+
+impl Width {
+    pub fn bits(self) -> u8
+        ensures { λ r. ⌜ r ≡ bits self ⌝ }
+    {
+        match self {
+            Width::Nibble => 4,
+            Width::Byte => 8,
+            Width::TwoBytes => 16,
+            Width::ThreeBytes => 24,
+            Width::Word => 32,
+        }
+    }
+
+    // One more than the largest number of the width.
+    pub fn span(self) -> u64
+        ensures { λ r. ⌜ r ≡ 2 ^ bits self ⌝ }
+    {
+        match self {
+            Width::Nibble => 16,
+            Width::Byte => 256,
+            Width::TwoBytes => 65536,
+            Width::ThreeBytes => 16777216,
+            Width::Word => 4294967296,
+        }
+    }
+
+    // The low bits of a value that the width keeps.
+    pub fn low_bits(self, value: u32) -> u32
+        ensures { λ r. ⌜ r ≡ value % 2 ^ bits self ⌝ }
+    {
+        match self {
+            Width::Nibble => value % 16,
+            Width::Byte => value % 256,
+            Width::TwoBytes => value % 65536,
+            Width::ThreeBytes => value % 16777216,
+            Width::Word => value,
+        }
+    }
+}

@@ -1,0 +1,2 @@
+-- Laws that every chapter's proofs share.
+pub mod Choice

@@ -1,0 +1,3 @@
+-- What every chapter's definitions share.
+pub mod Refusals
+pub mod Answers

@@ -1,0 +1,60 @@
+-- The refusal numbers by name, and the longest text or table that is read.
+use Prim.Native.Nat.{ℕ}
+
+abbrev pub no-room : ℕ
+no-room = 1
+
+abbrev pub no-digit : ℕ
+no-digit = 2
+
+abbrev pub bad-base : ℕ
+bad-base = 3
+
+abbrev pub too-big : ℕ
+too-big = 4
+
+abbrev pub not-ended : ℕ
+not-ended = 5
+
+abbrev pub over-limit : ℕ
+over-limit = 6
+
+abbrev pub bad-code : ℕ
+bad-code = 7
+
+abbrev pub bad-string : ℕ
+bad-string = 8
+
+abbrev pub bad-reference : ℕ
+bad-reference = 9
+
+abbrev pub unknown-name : ℕ
+unknown-name = 10
+
+abbrev pub too-deep : ℕ
+too-deep = 11
+
+abbrev pub allowance-spent : ℕ
+allowance-spent = 12
+
+abbrev pub bad-table : ℕ
+bad-table = 13
+
+abbrev pub unknown-call : ℕ
+unknown-call = 14
+
+abbrev pub bad-expression : ℕ
+bad-expression = 15
+
+abbrev pub zero-divisor : ℕ
+zero-divisor = 16
+
+abbrev pub not-an-integer : ℕ
+not-an-integer = 17
+
+abbrev pub over-length : ℕ
+over-length = 18
+
+-- in bytes
+abbrev pub longest : ℕ
+longest = 65535

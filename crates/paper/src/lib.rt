@@ -1,0 +1,46 @@
+// What every chapter shares: the two kinds of place, and the refusal numbers by name.
+
+// A place in a text, counted in bytes from its start.
+pub struct TextPlace(pub usize);
+
+// The place of a record in a table of variables: where its mark starts, counted in bytes from the table's start.
+pub struct RecordPlace(pub usize);
+
+pub const NO_ROOM: u8 = 1;
+
+pub const NO_DIGIT: u8 = 2;
+
+pub const BAD_BASE: u8 = 3;
+
+pub const TOO_BIG: u8 = 4;
+
+pub const NOT_ENDED: u8 = 5;
+
+pub const OVER_LIMIT: u8 = 6;
+
+pub const BAD_CODE: u8 = 7;
+
+pub const BAD_STRING: u8 = 8;
+
+pub const BAD_REFERENCE: u8 = 9;
+
+pub const UNKNOWN_NAME: u8 = 10;
+
+pub const TOO_DEEP: u8 = 11;
+
+pub const ALLOWANCE_SPENT: u8 = 12;
+
+pub const BAD_TABLE: u8 = 13;
+
+pub const UNKNOWN_CALL: u8 = 14;
+
+pub const BAD_EXPRESSION: u8 = 15;
+
+pub const ZERO_DIVISOR: u8 = 16;
+
+pub const NOT_AN_INTEGER: u8 = 17;
+
+pub const OVER_LENGTH: u8 = 18;
+
+// The longest text or table that is read, in bytes.
+pub const LONGEST: usize = 65535;
