@@ -1,15 +1,16 @@
 -- Laws of the digits: how many there are, and the room that they take.
-use mathlib.Core.Path.{_≡_, refl, ap, sym, _∙_}
+use mathlib.Core.Path.{_≡_, refl, ap, sym, subst, _∙_}
 use mathlib.Core.Bool.{Bool, true, false, cond, _&&_}
 use mathlib.Core.List.{List, [], _∷_}
 use Prim.Native.Nat.{ℕ, zero, suc, _+_, _-_, _*_, _/_, _%_, _^_, _≤_, _<_}
-use native.Mathlib.Nat.{pow-zero, pow-suc, mul-le-mul, pow-le-pow-left, pow-le-pow-right}
+use native.Mathlib.Nat.{add-zero, add-suc, suc-add, pow-zero, pow-suc, mul-le-mul, pow-le-pow-left, pow-le-pow-right}
 use native.Mathlib.Numerals.{add-one}
 use native.Mathlib.Decide.{decLt}
 use native.Mathlib.Omega.{arith}
 use lib.Dec.{ltb, eqb}
 use lib.ListN.{length, length-append}
 use borrow.Author.Tests.{lt-ltb, le-ltb, ltb-true, ltb-false, eqb-true, eqb-false}
+use Rattle.paper.proofs.Choice.{either}
 use Rattle.numbers.specs.Digits.{gapped, gap, digits, enough, digitCount}
 use Rattle.numbers.specs.Steps.{spreadOf, charactersOf}
 use Rattle.numbers.specs.Strings.{radix, negative, magnitude, count, minus, string}
@@ -43,15 +44,26 @@ gap-one s k h = ap (λ g. cond g (32 ∷ []) []) h
 pub enough-least : (b n more k m : ℕ) → 0 < b → n < b ^ m → k ≤ m → enough b n more k ≤ m
 unfolding enough
 enough-least b n zero k m pos high h = h
-enough-least b n (suc more) k m pos high h = go (ltb n (b ^ k)) refl (enough-least b n more (suc k) m pos high)
+enough-least b n (suc more) k m pos high h =
+    either (λ c. c ≤ m) (ltb n (b ^ k)) (λ _. h)
+    (λ e. enough-least b n more (suc k) m pos high (higher (ltb-false n (b ^ k) e) (decLt k m)))
   where
     higher : b ^ k ≤ n → Dec (k < m) → k < m
     higher low (yes p) = p
     higher low (no p) = absurd (omega (arith, pow-le-pow-right pos {i = m} {j = k} (omega (arith, p))))
 
-    go : (t : Bool) → ltb n (b ^ k) ≡ t → (k < m → enough b n more (suc k) ≤ m) → cond t k (enough b n more (suc k)) ≤ m
-    go true e rest = h
-    go false e rest = rest (higher (ltb-false n (b ^ k) e) (decLt k m))
+-- the digits that are counted hold the number
+pub enough-holds : (b n more k : ℕ) → n < b ^ (k + more) → n < b ^ enough b n more k
+unfolding enough
+enough-holds b n zero k h = rw add-zero at h
+enough-holds b n (suc more) k h =
+    either (λ c. n < b ^ c) (ltb n (b ^ k)) (λ e. ltb-true n (b ^ k) e)
+    (λ _. enough-holds b n more (suc k) (subst (λ m. n < b ^ m) (add-suc k more ∙ sym (suc-add k more)) h))
+
+pub enough-from : (b n more k : ℕ) → k ≤ enough b n more k
+unfolding enough
+enough-from b n zero k = omega arith
+enough-from b n (suc more) k = either (λ m. k ≤ m) (ltb n (b ^ k)) (λ _. omega arith) (λ _. omega (arith, enough-from b n more (suc k)))
 
 -- one step of the definition's own walk to the number of digits
 pub enough-next : (b n more k : ℕ) → 2 ≤ b → b ^ k ≤ n → k + more ≡ n + 1

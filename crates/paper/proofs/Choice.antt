@@ -1,5 +1,5 @@
 -- Which case a definition picks by its tests: each law takes a fact and goes on in the case that it leads to.
-use mathlib.Core.Path.{_≡_, ap, sym, _∙_}
+use mathlib.Core.Path.{_≡_, refl, ap, sym, _∙_}
 use mathlib.Core.Bool.{Bool, true, false, cond}
 use Prim.Native.Nat.{ℕ, _≤_, _<_}
 use lib.Dec.{ltb, leb, eqb}
@@ -23,3 +23,8 @@ module _ {ℓ} {A : Type ℓ} where
 
   pub other : (a b : ℕ) (x y : A) {z : A} → (a ≡ b → ⊥) → z ≡ y → z ≡ cond (eqb a b) x y
   other a b x y h e = skip (eqb a b) x y (ne-eqb a b h) e
+
+-- what holds of both cases, each where its test leads to it, holds of the one that is picked
+pub either {ℓ κ} : {A : Type ℓ} (P : A → Type κ) (b : Bool) {x y : A} → (b ≡ true → P x) → (b ≡ false → P y) → P (cond b x y)
+either P true f g = f refl
+either P false f g = g refl

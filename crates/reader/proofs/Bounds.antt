@@ -1,0 +1,55 @@
+-- Every answer of `reading` has a place up to 65,535, and a value of 32 bits.
+use mathlib.Core.Bool.{Bool, _||_, and-eq-true-iff}
+use mathlib.Core.List.{List}
+use Prim.Native.Nat.{ℕ, _+_, _≤_}
+use native.Mathlib.Omega.{arith}
+use borrow.Author.Tests.{ltb-false, eqb-true}
+use lib.Dec.{ltb, eqb}
+use lib.ListN.{length, getD, drop}
+use Rattle.paper.specs.Refusals.{longest}
+use Rattle.reader.specs.declared.Reading.{Reading}
+use Rattle.reader.specs.Reading.{placeOf, valueOf, run, goesOn, judged, based, behind, marked, numbered, reading, spaces}
+use Rattle.paper.proofs.Choice.{either}
+use Rattle.reader.proofs.Laws.{inside, spaces-within, run-within}
+
+pub record Bounded (r : Reading) : Type 0 where
+  pub place : placeOf r ≤ longest
+  pub value : valueOf r ≤ 4294967295
+
+module _ (text : List ℕ) (whole : Bool) (limit start : ℕ) (short : length text ≤ longest) (s : start ≤ length text) where
+  judged-bounded :
+      (first end value : ℕ) → first ≤ length text → end ≤ length text →
+      Bounded (judged text whole limit start first end value)
+  unfolding judged
+  judged-bounded first end value f e =
+      either Bounded (eqb end first) (λ _. omega arith)
+      (λ _. either Bounded (ltb 4294967295 value) (λ _. omega arith)
+      (λ fits. either Bounded (goesOn text whole end) (λ _. omega arith)
+      (λ _. either Bounded (ltb limit value) (λ _. omega arith)
+      (λ _. omega (arith, ltb-false 4294967295 value fits)))))
+
+  based-bounded : (first base : ℕ) → first ≤ length text → Bounded (based text whole limit start first base)
+  based-bounded first base f = judged-bounded first _ _ f (run-within base first text f)
+
+  behind-bounded : (first base : ℕ) → first ≤ length text → Bounded (behind text whole limit start first base)
+  unfolding behind
+  behind-bounded first base f =
+      either Bounded (ltb base 2 || ltb 36 base) (λ _. omega arith) (λ _. based-bounded first base f)
+
+  numbered-bounded : Bounded (numbered text whole limit start)
+  unfolding numbered
+  numbered-bounded =
+      let mark = start + length (run 10 (drop start text)) in
+      either Bounded (eqb (getD text start 0) 38)
+      (λ hex. based-bounded (start + 1) 16 (omega (arith, inside text start (omega (arith, eqb-true (getD text start 0) 38 hex)))))
+      (λ _. either Bounded (marked text start mark)
+      (λ m.
+      let u = eqb-true (getD text mark 0) 95 (and-eq-true-iff (ltb start mark) _ .0 m .1) in
+      behind-bounded (mark + 1) _ (omega (arith, inside text mark (omega arith))))
+      (λ _. based-bounded start 10 s))
+
+pub reading-bounded : (text : List ℕ) (whole : Bool) (limit : ℕ) → Bounded (reading text whole limit)
+unfolding reading
+reading-bounded text whole limit =
+    either Bounded (ltb longest (length text)) (λ _. omega arith)
+    (λ short. numbered-bounded text whole limit (spaces text) (ltb-false longest (length text) short) (spaces-within text))

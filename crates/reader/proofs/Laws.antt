@@ -1,0 +1,80 @@
+-- What the proofs share: a text from a place on, the spaces and the digits that stand there, and values that are cut.
+use mathlib.Core.Bool.{Bool, true, false, cond}
+use mathlib.Core.List.{List, [], _∷_}
+use mathlib.Core.Path.{_≡_, refl}
+use Prim.Native.Nat.{ℕ, suc, zero, zero-le, suc-le-suc, _+_, _*_, _<_, _≤_}
+use native.Mathlib.Nat.{le-mul-of-pos-right, min-eq-left, min-eq-right}
+use native.Mathlib.Decide.{decLe}
+use native.Mathlib.Numerals.{add-one}
+use native.Mathlib.Omega.{arith}
+use borrow.Author.Tests.{lt-ltb, le-ltb, eq-eqb, ne-eqb}
+use lib.Dec.{ltb, eqb}
+use lib.ListN.{length, getD, drop, length-drop, drop-of-length-le}
+use lib.Seq.{drop-cons}
+use Rattle.paper.proofs.Choice.{either}
+use Rattle.reader.specs.Reading.{spaces, digit, run, judged, behind}
+use Rattle.reader.specs.Steps.{cut}
+
+-- a byte that is not zero stands inside the text
+pub inside : (text : List ℕ) (at : ℕ) → 0 < getD text at 0 → at < length text
+inside [] at h = omega arith
+inside (x ∷ xs) zero h = omega arith
+inside (x ∷ xs) (suc at) h = omega (arith, inside xs at h)
+
+pub space-none : (text : List ℕ) (at : ℕ) → (getD text at 0 ≡ 32 → ⊥) → spaces (drop at text) ≡ 0
+space-none [] zero n = refl
+space-none [] (suc at) n = refl
+space-none (x ∷ xs) zero n = rw (ne-eqb x 32 n)
+space-none (x ∷ xs) (suc at) n = space-none xs at n
+
+module _ (text : List ℕ) (at : ℕ) where
+  pub space-more : getD text at 0 ≡ 32 → spaces (drop at text) ≡ suc (spaces (drop (at + 1) text))
+  space-more e =
+      let h : at < length text = inside text at (omega arith) in
+      rw (add-one, drop-cons text at 0, eq-eqb (getD text at 0) 32)
+
+  module _ (base : ℕ) where
+    pub run-end : length text ≤ at → run base (drop at text) ≡ []
+    run-end h = rw (drop-of-length-le text h)
+
+    module _ {d : ℕ} (h : at < length text) (e : d ≡ digit (getD text at 0)) where
+      pub run-none : base ≤ d → run base (drop at text) ≡ []
+      run-none l = rw (drop-cons text at 0, ← e, le-ltb d base)
+
+      pub run-more : d < base → run base (drop at text) ≡ d ∷ run base (drop (at + 1) text)
+      run-more l = rw (add-one, drop-cons text at 0, ← e, lt-ltb d base)
+
+pub spaces-within : (text : List ℕ) → spaces text ≤ length text
+spaces-within [] = omega arith
+spaces-within (x ∷ xs) = either (λ n. n ≤ suc (length xs)) (eqb x 32) (λ _. omega (arith, spaces-within xs)) (λ _. omega arith)
+
+run-length : (base : ℕ) (text : List ℕ) → length (run base text) ≤ length text
+run-length base [] = omega arith
+run-length base (x ∷ xs) =
+    either (λ ds. length ds ≤ suc (length xs)) (ltb (digit x) base) (λ _. omega (arith, run-length base xs)) (λ _. omega arith)
+
+pub run-within : (base first : ℕ) (text : List ℕ) → first ≤ length text → first + length (run base (drop first text)) ≤ length text
+run-within base first text h = omega (arith, run-length base (drop first text), length-drop first text)
+
+-- what does not tell the numbers from 4294967296 on apart does not tell a value from that value cut
+cut-same : {A : Type 0} (f : ℕ → A) (a : ℕ) → (4294967296 ≤ a → f 4294967296 ≡ f a) → f (cut a) ≡ f a
+cut-same f a above = go (decLe 4294967296 a) where
+  go : Dec (4294967296 ≤ a) → f (cut a) ≡ f a
+  go (yes h) = rw (min-eq-right h) (above h)
+  go (no n) = rw (min-eq-left {n = a} {m = 4294967296} (omega arith))
+
+pub cut-more : (base d a : ℕ) → cut (cut a * base + d) ≡ cut (a * base + d)
+cut-more zero d a = omega arith
+cut-more (suc b) d a =
+    cut-same (λ n. cut (n * suc b + d)) a (λ h. omega (arith, le-mul-of-pos-right a (suc-le-suc (zero-le {n = b}))))
+
+module _ (text : List ℕ) (whole : Bool) (limit start first : ℕ) where
+  pub cut-judged : (end value : ℕ) → judged text whole limit start first end (cut value) ≡ judged text whole limit start first end value
+  unfolding judged
+  cut-judged end value = cut-same (judged text whole limit start first end) value (λ h. rw (lt-ltb 4294967295 value h))
+
+  pub cut-behind : (base : ℕ) → behind text whole limit start first (cut base) ≡ behind text whole limit start first base
+  unfolding behind
+  cut-behind base =
+      cut-same (behind text whole limit start first) base
+      (λ h. rw (le-ltb base 2 (omega arith), lt-ltb 36 base (omega arith)))

@@ -1,0 +1,4 @@
+-- The laws that several proofs cite, and the bounds of every answer.
+pub mod Laws
+pub mod Bounds
+pub mod ReadBack

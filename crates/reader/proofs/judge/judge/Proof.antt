@@ -1,0 +1,84 @@
+-- `judge` meets its contract: each return knows the outcomes of the tests before it.
+use mathlib.Core.Path.{sym, _∙_}
+use borrow.Author.Needs.{needs}
+use borrow.Author.Tests.{eq-eqb, ne-eqb, lt-ltb, le-ltb}
+use Rattle.reader.specs.Reading.{judged}
+use Rattle.reader.proofs.judge.judge.Statement.{statement}
+use Rattle.reader.proofs.judge.judge.Tie as tie
+
+refused-requires : tie.Need-refused-requires
+refused-requires c κs = search needs
+
+returns : tie.Need-returns
+unfolding judged
+returns c = rw (c .refused .ensures, eq-eqb _ _ (c .before .if1 .taken))
+
+refused-requires-2 : tie.Need-refused-requires-2
+refused-requires-2 c κs = search needs
+
+returns-2 : tie.Need-returns-2
+unfolding judged
+returns-2 c =
+    rw (c .refused2 .ensures, ne-eqb _ _ (c .before .before .before .if1 .left), lt-ltb _ _ (c .before .if2 .taken))
+
+goes-on-requires : tie.Need-goes-on-requires
+goes-on-requires c κs = search needs
+
+refused-requires-3 : tie.Need-refused-requires-3
+refused-requires-3 c κs = search needs
+
+returns-3 : tie.Need-returns-3
+unfolding judged
+returns-3 c =
+    let on = c .before .before in
+    rw (
+      c .refused3 .ensures,
+      ne-eqb _ _ (on .before .before .before .if1 .left),
+      le-ltb _ _ (on .before .if2 .left),
+      sym (on .goes-on .ensures) ∙ c .before .if3 .taken,
+    )
+
+cast-value : tie.Need-cast-value
+cast-value c = search needs
+
+refused-requires-4 : tie.Need-refused-requires-4
+refused-requires-4 c κs = search needs
+
+returns-4 : tie.Need-returns-4
+unfolding judged
+returns-4 c =
+    let on = c .before .before .before .before in
+    rw (
+      c .refused4 .ensures,
+      ne-eqb _ _ (on .before .before .before .if1 .left),
+      le-ltb _ _ (on .before .if2 .left),
+      sym (on .goes-on .ensures) ∙ c .before .before .before .if3 .left,
+      lt-ltb _ _ (c .before .if4 .taken),
+    )
+
+returns-5 : tie.Need-returns-5
+unfolding judged
+returns-5 c =
+    let on = c .before .before .before in
+    rw (
+      ne-eqb _ _ (on .before .before .before .if1 .left),
+      le-ltb _ _ (on .before .if2 .left),
+      sym (on .goes-on .ensures) ∙ c .before .before .if3 .left,
+      le-ltb _ _ (c .if4 .left),
+    )
+
+pub judge-spec : {M : Type 1} → statement M
+judge-spec =
+    tie.close
+    (tie.spec
+    refused-requires
+    returns
+    refused-requires-2
+    returns-2
+    goes-on-requires
+    refused-requires-3
+    returns-3
+    cast-value
+    refused-requires-4
+    returns-4
+    returns-5)

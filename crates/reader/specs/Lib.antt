@@ -1,0 +1,3 @@
+-- The unsigned reader.
+pub mod Reading
+pub mod Steps

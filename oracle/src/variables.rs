@@ -1,0 +1,218 @@
+//! Chapter "Variables": a table of records, and names looked up in it.
+
+use crate::refusal::{check_length, Located, Refusal, Refused};
+
+/// The two bytes that each record stands behind.
+pub const MARK: [u8; 2] = [86, 82];
+/// The mark, the kind and the two lengths come before the name.
+pub const HEADER: usize = 5;
+pub const LONGEST_NAME: usize = 32;
+const MOST_RECORDS: usize = 256;
+
+#[derive(Clone, Copy, Debug, PartialEq, Eq)]
+pub enum Kind {
+    String = 0,
+    Integer = 1,
+    Macro = 2,
+}
+
+/// One good record; its place is the offset of its mark.
+#[derive(Clone, Copy, Debug, PartialEq, Eq)]
+pub struct Record<'a> {
+    pub place: usize,
+    pub kind: Kind,
+    pub name: &'a [u8],
+    pub value: &'a [u8],
+}
+
+impl Record<'_> {
+    /// The value of an integer variable, and of no other.
+    pub fn integer(&self) -> Option<i32> {
+        let bytes = self.value.try_into().ok()?;
+        (self.kind == Kind::Integer).then_some(i32::from_le_bytes(bytes))
+    }
+}
+
+/// A good table.
+#[derive(Debug, PartialEq, Eq)]
+pub struct Table<'a> {
+    records: Vec<Record<'a>>,
+}
+
+impl<'a> Table<'a> {
+    /// Reads a whole table, or refuses it at its first bad record.
+    pub fn read(lent: &'a [u8]) -> Result<Self, Refused> {
+        check_length(lent)?;
+        let mut table = Table {
+            records: Vec::new(),
+        };
+        let mut place = 0;
+        while place < lent.len() {
+            let record = table
+                .next_record(lent, place)
+                .ok_or(Refusal::BadTable.at(place))?;
+            place += HEADER + record.name.len() + record.value.len();
+            table.records.push(record);
+        }
+        Ok(table)
+    }
+
+    /// The record at a place, if it is a good one behind those read before it.
+    fn next_record(&self, lent: &'a [u8], place: usize) -> Option<Record<'a>> {
+        let record = record_at(lent, place)?;
+        let good = self.count() < MOST_RECORDS && self.look_up(record.name).is_none();
+        good.then_some(record)
+    }
+
+    pub fn count(&self) -> usize {
+        self.records.len()
+    }
+
+    /// Names are equal when they differ only in the case of A to Z.
+    pub fn look_up(&self, name: &[u8]) -> Option<Record<'a>> {
+        let equal = |record: &&Record| record.name.eq_ignore_ascii_case(name);
+        self.records.iter().find(equal).copied()
+    }
+}
+
+/// The record at a place, judged by itself.
+fn record_at(lent: &[u8], place: usize) -> Option<Record<'_>> {
+    let header = lent.get(place..place + HEADER)?;
+    let kind = kind(header[2])?;
+    let (name_length, value_length) = (usize::from(header[3]), usize::from(header[4]));
+    let good_lengths =
+        (1..=LONGEST_NAME).contains(&name_length) && (kind != Kind::Integer || value_length == 4);
+    if !header.starts_with(&MARK) || !good_lengths {
+        return None;
+    }
+    let name_place = place + HEADER;
+    let value_place = name_place + name_length;
+    let name = lent.get(name_place..value_place)?;
+    let value = lent.get(value_place..value_place + value_length)?;
+    name.iter()
+        .all(|&byte| is_name_byte(byte))
+        .then_some(Record {
+            place,
+            kind,
+            name,
+            value,
+        })
+}
+
+fn kind(byte: u8) -> Option<Kind> {
+    match byte {
+        0 => Some(Kind::String),
+        1 => Some(Kind::Integer),
+        2 => Some(Kind::Macro),
+        _ => None,
+    }
+}
+
+/// Whether a byte is allowed in a name.
+pub fn is_name_byte(byte: u8) -> bool {
+    matches!(byte, 33..=126) && !matches!(byte, b'"' | b'<' | b'>')
+}
+
+/// What every operation on a text and a table begins with: 18 (text, table), then 13.
+pub fn table_for<'a>(text: &[u8], table: &'a [u8]) -> Result<Table<'a>, Located> {
+    check_length(text).map_err(Located::InText)?;
+    Table::read(table).map_err(Located::InTable)
+}
+
+#[cfg(test)]
+mod tests {
+    use super::*;
+
+    fn record(kind: u8, name: &[u8], value: &[u8]) -> Vec<u8> {
+        let header = [86, 82, kind, name.len() as u8, value.len() as u8];
+        [&header, name, value].concat()
+    }
+
+    /// The number of records, or the place of the first bad one.
+    fn counted(table: &[u8]) -> Result<usize, usize> {
+        match Table::read(table) {
+            Ok(table) => Ok(table.count()),
+            Err(refused) => {
+                assert_eq!(refused.refusal, Refusal::BadTable);
+                Err(refused.place)
+            }
+        }
+    }
+
+    fn numbered(count: usize) -> Vec<u8> {
+        let name = |index: usize| format!("v{index}").into_bytes();
+        (0..count)
+            .flat_map(|index| record(0, &name(index), b""))
+            .collect()
+    }
+
+    #[test]
+    fn the_table_of_p13_is_good() {
+        let bytes = [86, 82, 0, 1, 1, 97, 120];
+        let table = Table::read(&bytes).expect("a good table");
+        let found = table.look_up(b"A").expect("a known name");
+        assert_eq!(
+            (found.place, found.kind, found.value),
+            (0, Kind::String, &b"x"[..])
+        );
+        assert_eq!(table.look_up(b""), None);
+        assert_eq!(table.look_up(&[b'a'; 33]), None);
+    }
+
+    #[test]
+    fn each_field_can_make_a_record_bad() {
+        let first = record(2, b"m", b"<\0");
+        let behind = |bad: &[u8]| counted(&[&first, bad].concat());
+        assert_eq!(behind(&record(1, b"n", &[0, 0, 0, 128])), Ok(2));
+        assert_eq!(behind(b"VS\0\x01\0n"), Err(8));
+        assert_eq!(behind(b"WR\0\x01\0n"), Err(8));
+        assert_eq!(behind(&record(3, b"n", b"")), Err(8));
+        assert_eq!(behind(&record(0, b"", b"")), Err(8));
+        assert_eq!(behind(&record(0, &[b'n'; 32], b"")), Ok(2));
+        assert_eq!(behind(&record(0, &[b'n'; 33], b"")), Err(8));
+        assert_eq!(behind(&record(1, b"n", b"123")), Err(8));
+        assert_eq!(behind(&record(1, b"n", b"12345")), Err(8));
+        for byte in [0, 32, 34, 60, 62, 127, 128, 255] {
+            assert_eq!(behind(&record(0, &[byte], b"")), Err(8));
+        }
+    }
+
+    #[test]
+    fn a_cut_record_is_bad() {
+        let table = [record(0, b"a", b"xy"), record(1, b"b", b"1234")].concat();
+        for length in 0..table.len() {
+            let expected = match length {
+                0 => Ok(0),
+                8 => Ok(1),
+                _ => Err(if length < 8 { 0 } else { 8 }),
+            };
+            assert_eq!(counted(&table[..length]), expected);
+        }
+    }
+
+    #[test]
+    fn the_later_of_two_equal_names_is_bad() {
+        let twins = [record(0, b"aB$", b""), record(2, b"Ab$", b"")].concat();
+        assert_eq!(counted(&twins), Err(8));
+        let others = [record(0, b"@", b""), record(0, b"`", b"")].concat();
+        assert_eq!(counted(&others), Ok(2));
+    }
+
+    #[test]
+    fn the_257th_record_is_bad() {
+        let full = numbered(256);
+        assert_eq!(counted(&full), Ok(256));
+        assert_eq!(counted(&numbered(257)), Err(full.len()));
+        assert_eq!(counted(&[&full[..], b"V"].concat()), Err(full.len()));
+    }
+
+    #[test]
+    fn the_text_is_judged_before_the_table() {
+        let long = vec![0; 65_536];
+        let over = Refusal::OverLong.at(0);
+        assert_eq!(table_for(&long, &long), Err(Located::InText(over)));
+        assert_eq!(table_for(b"", &long), Err(Located::InTable(over)));
+        let bad = Refusal::BadTable.at(0);
+        assert_eq!(table_for(b"", &long[1..]), Err(Located::InTable(bad)));
+    }
+}
