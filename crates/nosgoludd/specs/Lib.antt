@@ -1,0 +1,2 @@
+-- The C face.
+pub mod Packed

@@ -1,0 +1,58 @@
+// The C face: every operation with an answer of one 64-bit number, so that a refusal writes nothing anywhere.
+ghost use mathlib.Core.Path.{_≡_};
+ghost use mathlib.Core.Bool.{not};
+ghost use Prim.Native.Nat.{_≤_};
+ghost use lib.Dec.{eqb};
+ghost use lib.ListN.{length};
+ghost use Rattle.numbers.specs.Calls.{answerOf, bufferOf};
+ghost use Rattle.reader.specs.Reading.{reading};
+ghost use Rattle.nosgoludd.specs.Packed.{packed, packedConversion, packedReading};
+use numbers::Converted;
+use reader::Reading;
+
+// What a place is counted in.
+const IN_THE_TEXT: u64 = 0;
+
+// The parts of an answer in one number: the refusal number in bits 0 to 7, what the place is counted in in bits 8 to 15, the
+// place in bits 16 to 31, the need or the value in bits 32 to 63.
+fn pack(number: u8, counted: u64, place: usize, high: usize) -> u64
+    requires { ⌜ (counted ≤ 255) × (place ≤ 65535) × (high ≤ 4294967295) ⌝ }
+    ensures { λ r. ⌜ r ≡ packed number counted place high ⌝ }
+{
+    number as u64 + 256 * counted + 65536 * (place as u64) + 4294967296 * (high as u64)
+}
+
+#[no_mangle]
+pub extern "C" fn nos_convert(call: u32, value: u32, buf: &mut [u8]) -> u64
+    ensures answer { λ r. ⌜ r ≡ packedConversion (answerOf call value (length (now (buf .entry)))) ⌝ }
+    ensures buffer { λ r. ⌜ now (buf .exit) ≡ bufferOf call value (now (buf .entry)) ⌝ }
+{
+    let answer = numbers::convert(call, value, buf);
+    match answer {
+        Converted::Written {
+            offset,
+            need,
+            free: _,
+        } => pack(0, IN_THE_TEXT, offset, need),
+        Converted::Refused {
+            number,
+            need,
+            free: _,
+        } => pack(number, IN_THE_TEXT, 0, need),
+    }
+}
+
+// Whole is off at 0 and on at every other number; a limit of 4294967295 refuses nothing.
+#[no_mangle]
+pub extern "C" fn nos_read_unsigned(text: &[u8], whole: u32, limit: u32) -> u64
+    ensures { λ r. ⌜ r ≡ packedReading (reading (now (text .entry)) (not (eqb whole 0)) limit) ⌝ }
+{
+    let answer = reader::read_unsigned(text, whole != 0, limit);
+    match answer {
+        Reading::Value(n) => {
+            let end = n.end;
+            pack(0, IN_THE_TEXT, end.0, n.value as usize)
+        }
+        Reading::Refused { number, at } => pack(number, IN_THE_TEXT, at.0, 0),
+    }
+}
