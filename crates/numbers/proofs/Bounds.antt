@@ -82,11 +82,14 @@ conversion-small form value room small =
     (λ _. record { number = omega arith; place = omega arith; need = needs })
     (λ _. record { number = omega arith; place = long; need = needs })
 
+pub fixed-small : (form : Form) → Family (Known form) → form .fixed ≤ 255
+fixed-small form (in-hex w) = omega (arith, bits-range w)
+fixed-small form (in-binary w) = omega (arith, bits-range w)
+fixed-small form (in-decimal signed spaced w) = omega arith
+
 answer-in-small : (d : Described) (value room : ℕ) → Family d → Small (inPaper (answerIn d value room))
-answer-in-small Unknown value room unknown = record { number = omega arith; place = omega arith; need = omega arith }
-answer-in-small (Known form) value room (in-hex w) = conversion-small (hex w) value room (omega (arith, bits-range w))
-answer-in-small (Known form) value room (in-binary w) = conversion-small (binary w) value room (omega (arith, bits-range w))
-answer-in-small (Known form) value room (in-decimal signed spaced w) = conversion-small (decimal signed spaced w) value room (omega arith)
+answer-in-small Unknown value room f = record { number = omega arith; place = omega arith; need = omega arith }
+answer-in-small (Known form) value room f = conversion-small form value room (fixed-small form f)
 
 pub answer-small : (call value room : ℕ) → Small (inPaper (answerOf call value room))
 unfolding answerOf

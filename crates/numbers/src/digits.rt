@@ -10,7 +10,7 @@ ghost use Rattle.numbers.specs.Steps.{spreadOf};
 use crate::forms::Base;
 
 // How many digits n has, zero having one.
-pub fn count_digits(base: Base, n: u32) -> usize
+pub(crate) fn count_digits(base: Base, n: u32) -> usize
     ensures { λ r. ⌜ r ≡ digitCount (radix base) n ⌝ }
 {
     let radix = base.radix() as u64;

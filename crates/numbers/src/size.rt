@@ -84,7 +84,7 @@ fn size_of(form: Form, negative: bool, magnitude: u32) -> Size
 }
 
 // The size of the string of `value` in a form.
-pub fn measure(form: Form, value: u32) -> Size
+pub(crate) fn measure(form: Form, value: u32) -> Size
     ensures { λ r. ⌜ r ≡ sizeOf form (negative form value) (magnitude form value) ⌝ }
 {
     let width = form.width;

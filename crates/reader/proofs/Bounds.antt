@@ -1,6 +1,7 @@
--- Every answer of `reading` has a place up to 65,535, and a value of 32 bits.
+-- Every answer of `reading` has a place up to 65,535, a value of 32 bits, and a number that is listed.
 use mathlib.Core.Bool.{Bool, _||_, and-eq-true-iff}
-use mathlib.Core.List.{List}
+use mathlib.Core.List.{List, List·Memᴰ, List·Memᴰ·head as head, List·Memᴰ·tail as tail}
+use mathlib.Core.Path.{refl}
 use Prim.Native.Nat.{ℕ, _+_, _≤_}
 use native.Mathlib.Omega.{arith}
 use borrow.Author.Tests.{ltb-false, eqb-true}
@@ -8,13 +9,15 @@ use lib.Dec.{ltb, eqb}
 use lib.ListN.{length, getD, drop}
 use Rattle.paper.specs.Refusals.{longest}
 use Rattle.reader.specs.declared.Reading.{Reading}
-use Rattle.reader.specs.Reading.{placeOf, valueOf, run, goesOn, judged, based, behind, marked, numbered, reading, spaces}
+use Rattle.reader.specs.Reading.{numberOf, placeOf, valueOf, numbers, run, goesOn, judged, based, behind, marked, numbered, reading, spaces}
 use Rattle.paper.proofs.Choice.{either}
 use Rattle.reader.proofs.Laws.{inside, spaces-within, run-within}
 
 pub record Bounded (r : Reading) : Type 0 where
+  pub number : numberOf r ≤ 18
   pub place : placeOf r ≤ longest
   pub value : valueOf r ≤ 4294967295
+  pub listed : List·Memᴰ (numberOf r) numbers
 
 module _ (text : List ℕ) (whole : Bool) (limit start : ℕ) (short : length text ≤ longest) (s : start ≤ length text) where
   judged-bounded :
@@ -22,11 +25,14 @@ module _ (text : List ℕ) (whole : Bool) (limit start : ℕ) (short : length te
       Bounded (judged text whole limit start first end value)
   unfolding judged
   judged-bounded first end value f e =
-      either Bounded (eqb end first) (λ _. omega arith)
-      (λ _. either Bounded (ltb 4294967295 value) (λ _. omega arith)
-      (λ fits. either Bounded (goesOn text whole end) (λ _. omega arith)
-      (λ _. either Bounded (ltb limit value) (λ _. omega arith)
-      (λ _. omega (arith, ltb-false 4294967295 value fits)))))
+      either Bounded (eqb end first) (λ _. record { number = omega arith; place = omega arith; value = omega arith; listed = tail (tail (tail (head refl))) })
+      (λ _. either Bounded (ltb 4294967295 value)
+      (λ _. record { number = omega arith; place = omega arith; value = omega arith; listed = tail (tail (tail (tail (head refl)))) })
+      (λ fits. either Bounded (goesOn text whole end)
+      (λ _. record { number = omega arith; place = omega arith; value = omega arith; listed = tail (tail (tail (tail (tail (head refl))))) })
+      (λ _. either Bounded (ltb limit value)
+      (λ _. record { number = omega arith; place = omega arith; value = omega arith; listed = tail (tail (tail (tail (tail (tail (head refl)))))) })
+      (λ _. record { number = omega arith; place = omega arith; value = omega (arith, ltb-false 4294967295 value fits); listed = head refl }))))
 
   based-bounded : (first base : ℕ) → first ≤ length text → Bounded (based text whole limit start first base)
   based-bounded first base f = judged-bounded first _ _ f (run-within base first text f)
@@ -34,7 +40,8 @@ module _ (text : List ℕ) (whole : Bool) (limit start : ℕ) (short : length te
   behind-bounded : (first base : ℕ) → first ≤ length text → Bounded (behind text whole limit start first base)
   unfolding behind
   behind-bounded first base f =
-      either Bounded (ltb base 2 || ltb 36 base) (λ _. omega arith) (λ _. based-bounded first base f)
+      either Bounded (ltb base 2 || ltb 36 base)
+      (λ _. record { number = omega arith; place = omega arith; value = omega arith; listed = tail (tail (head refl)) }) (λ _. based-bounded first base f)
 
   numbered-bounded : Bounded (numbered text whole limit start)
   unfolding numbered
@@ -51,5 +58,5 @@ module _ (text : List ℕ) (whole : Bool) (limit start : ℕ) (short : length te
 pub reading-bounded : (text : List ℕ) (whole : Bool) (limit : ℕ) → Bounded (reading text whole limit)
 unfolding reading
 reading-bounded text whole limit =
-    either Bounded (ltb longest (length text)) (λ _. omega arith)
+    either Bounded (ltb longest (length text)) (λ _. record { number = omega arith; place = omega arith; value = omega arith; listed = tail (head refl) })
     (λ short. numbered-bounded text whole limit (spaces text) (ltb-false longest (length text) short) (spaces-within text))

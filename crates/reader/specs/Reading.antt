@@ -96,6 +96,10 @@ abbrev pub valueOf : Reading → ℕ
 valueOf (Value n) = n .value
 valueOf (Refused number at) = 0
 
+-- the numbers that an answer can have, in the order in which the refusals are looked for
+abbrev pub numbers : List ℕ
+numbers = 0 ∷ over-length ∷ bad-base ∷ no-digit ∷ too-big ∷ not-ended ∷ over-limit ∷ []
+
 -- what stands before a number's digits so that they are read in a base: "&", "2_", nothing
 abbrev pub lead : Base → List ℕ
 lead Sixteen = 38 ∷ []

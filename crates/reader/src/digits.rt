@@ -12,14 +12,14 @@ pub struct Run {
 }
 
 // The byte at a place, 0 past the slice's end.
-pub fn byte(text: &[u8], at: usize) -> u8
+pub(crate) fn byte(text: &[u8], at: usize) -> u8
     ensures { λ r. ⌜ r ≡ getD (now (text .entry)) at 0 ⌝ }
 {
     if at < text.len() { text[at] } else { 0 }
 }
 
 // The place of the first byte that is no space.
-pub fn skip_spaces(text: &[u8]) -> usize
+pub(crate) fn skip_spaces(text: &[u8]) -> usize
     ensures { λ r. ⌜ r ≡ spaces (now (text .entry)) ⌝ }
 {
     let mut at = 0;
@@ -30,7 +30,7 @@ pub fn skip_spaces(text: &[u8]) -> usize
 }
 
 // A byte as a digit; 36 where it is none.
-pub fn digit_of(c: u8) -> u8
+pub(crate) fn digit_of(c: u8) -> u8
     ensures { λ r. ⌜ r ≡ digit c ⌝ }
 {
     if c < b'0' {
@@ -55,7 +55,7 @@ pub fn digit_of(c: u8) -> u8
 }
 
 // One digit more: 4294967296 stands for every value above 4294967295, so that nothing wraps however many digits come.
-pub fn one_more(value: u64, base: u8, digit: u8) -> u64
+pub(crate) fn one_more(value: u64, base: u8, digit: u8) -> u64
     requires { ⌜ value ≤ 4294967296 ⌝ }
     ensures { λ r. ⌜ r ≡ cut (value * base + digit) ⌝ }
 {
@@ -64,7 +64,7 @@ pub fn one_more(value: u64, base: u8, digit: u8) -> u64
 }
 
 // The digits of a base from the place `first` on.
-pub fn run_from(text: &[u8], first: usize, base: u8) -> Run
+pub(crate) fn run_from(text: &[u8], first: usize, base: u8) -> Run
     ensures end { λ r. ⌜ r .end ≡ first + length (run base (drop first (now (text .entry)))) ⌝ }
     ensures value { λ r. ⌜ r .value ≡ cut (worth base 0 (run base (drop first (now (text .entry))))) ⌝ }
 {
@@ -82,7 +82,7 @@ pub fn run_from(text: &[u8], first: usize, base: u8) -> Run
 }
 
 // Whether digits stand from `start` up to `mark`, and "_" directly behind them.
-pub fn marked(text: &[u8], start: usize, mark: usize) -> bool
+pub(crate) fn marked(text: &[u8], start: usize, mark: usize) -> bool
     ensures { λ r. ⌜ r ≡ marked (now (text .entry)) start mark ⌝ }
 {
     if start < mark {

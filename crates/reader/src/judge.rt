@@ -11,7 +11,7 @@ use paper::OVER_LIMIT;
 use paper::TOO_BIG;
 use paper::TextPlace;
 
-pub fn refused(number: u8, at: usize) -> Reading
+pub(crate) fn refused(number: u8, at: usize) -> Reading
     ensures { λ r. ⌜ r ≡ refused number at ⌝ }
 {
     Reading::Refused {
@@ -28,7 +28,14 @@ fn goes_on(text: &[u8], whole: bool, end: usize) -> bool
 }
 
 // The digits of `run` stand from `first` on; the number starts at `start`.
-pub fn judge(text: &[u8], whole: bool, limit: u32, start: usize, first: usize, run: Run) -> Reading
+pub(crate) fn judge(
+    text: &[u8],
+    whole: bool,
+    limit: u32,
+    start: usize,
+    first: usize,
+    run: Run,
+) -> Reading
     ensures { λ r. ⌜ r ≡ judged (now (text .entry)) whole limit start first (run .end) (run .value) ⌝ }
 {
     let end = run.end;

@@ -1,0 +1,2 @@
+-- A packed answer comes apart again.
+pub mod Unpacked

@@ -1,0 +1,35 @@
+-- A packed answer comes apart again into the numbers that it was packed from, by the shifts and masks of the C header.
+use mathlib.Core.Path.{_≡_}
+use mathlib.Core.Bool.{Bool}
+use mathlib.Core.List.{List}
+use Prim.Native.Nat.{ℕ, _/_, _%_, _≤_}
+use native.Mathlib.Omega.{arith}
+use Rattle.paper.specs.Answers.{Answer}
+use Rattle.numbers.specs.Strings.{inPaper}
+use Rattle.numbers.specs.Calls.{answerOf}
+use Rattle.numbers.proofs.Bounds.{answer-small}
+use Rattle.reader.specs.Reading.{reading, numberOf, placeOf, valueOf}
+use Rattle.reader.proofs.Bounds.{reading-bounded}
+use Rattle.nosgoludd.specs.Packed.{packed, packedConversion, packedReading}
+
+pub record Unpacks (r number counted place high : ℕ) : Type 0 where
+  pub number-is : r % 256 ≡ number
+  pub counted-is : r / 256 % 256 ≡ counted
+  pub place-is : r / 65536 % 65536 ≡ place
+  pub high-is : r / 4294967296 ≡ high
+
+pub unpacks : (number counted place high : ℕ) → number ≤ 255 → counted ≤ 255 → place ≤ 65535
+    → Unpacks (packed number counted place high) number counted place high
+unpacks number counted place high n c p = omega arith
+
+pub conversion-unpacks : (call value room : ℕ)
+    → let a = inPaper (answerOf call value room) in Unpacks (packedConversion (answerOf call value room)) (a .number) 0 (a .place) (a .need)
+conversion-unpacks call value room =
+    let small = answer-small call value room in
+    unpacks _ 0 _ _ (omega (arith, small .number)) (omega arith) (omega (arith, small .place))
+
+pub reading-unpacks : (text : List ℕ) (whole : Bool) (limit : ℕ)
+    → let a = reading text whole limit in Unpacks (packedReading a) (numberOf a) 0 (placeOf a) (valueOf a)
+reading-unpacks text whole limit =
+    let small = reading-bounded text whole limit in
+    unpacks _ 0 _ _ (omega (arith, small .number)) (omega arith) (omega (arith, small .place))

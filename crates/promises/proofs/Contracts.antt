@@ -1,0 +1,19 @@
+-- What is promised of is what the contracts say: whatever a caller learns of a call is what `Allowed` has.
+use mathlib.Core.List.{List}
+use Prim.Native.Nat.{ℕ}
+use mathlib.Core.Bool.{Bool}
+use contract.Lifetimes.{Lfts}
+use denote.Ref.{RefT, now}
+use Rattle.numbers.proofs.convert.Reads as convert
+use Rattle.numbers.specs.declared.Converted.{Converted}
+use Rattle.reader.proofs.read_unsigned.Reads as read-unsigned
+use Rattle.reader.specs.declared.Reading.{Reading}
+use Rattle.promises.specs.Allowed.{Converts, Reads}
+
+pub convert-allows : (κs : Lfts 1) (call value : ℕ) (buf after : RefT (List ℕ)) (r : Converted)
+    → convert.Learnt κs (call, (value, (buf, tt))) r (call, (value, (after, tt))) → Converts call value (now buf) r (now after)
+convert-allows κs call value buf after r learnt = record { answer = learnt .0; buffer = learnt .1 }
+
+pub read-unsigned-allows : (κs : Lfts 1) (text : RefT (List ℕ)) (whole : Bool) (limit : ℕ) (r : Reading)
+    → read-unsigned.Learnt κs (text, (whole, (limit, tt))) r (text, (whole, (limit, tt))) → Reads (now text) whole limit r
+read-unsigned-allows κs text whole limit r learnt = record { answer = learnt }

@@ -1,0 +1,6 @@
+-- Why the promises are kept.
+pub mod Contracts
+pub mod Outcomes
+pub mod WorkedExamples
+pub mod ConversionsKept
+pub mod ReadingsKept

@@ -1,0 +1,91 @@
+-- Every worked example holds of every answer that the contracts allow.
+use mathlib.Core.Path.{_≡_, refl, ap, sym, _∙_}
+use mathlib.Core.Bool.{true, false}
+use mathlib.Core.List.{List, _++_}
+use Prim.Native.Nat.{ℕ, _≤_, _<_}
+use native.Mathlib.Omega.{arith}
+use lib.Dec.{lit≤, lit<}
+use lib.ListN.{length, drop}
+use Rattle.paper.specs.Answers.{Answer}
+use Rattle.paper.specs.Refusals.{bad-base}
+use Rattle.numbers.specs.Digits.{digits, enough}
+use Rattle.numbers.specs.Strings.{string, terminator, needed, conversion, inPaper}
+use Rattle.numbers.specs.Calls.{hex, decimal, ranged, described, answerOf}
+use Rattle.numbers.specs.declared.Converted.{Converted}
+use Rattle.numbers.specs.declared.calls.Described.the-variants.{Known}
+use Rattle.numbers.specs.declared.forms.Form.{Form}
+use Rattle.numbers.specs.declared.forms.Width.the-variants.{Byte, ThreeBytes, Word}
+use Rattle.reader.specs.Reading.{digit, judged, behind, numbered, reading, numberOf, placeOf, valueOf}
+use Rattle.reader.specs.declared.Reading.{Reading}
+use Rattle.promises.specs.Allowed.{Converts, Reads}
+use Rattle.promises.specs.Examples.{Row, writes, lacks, reads, refuses, Holds, All, examples}
+use Rattle.promises.proofs.Outcomes.{Outcome, unknown, short, whole, one-form, not-both, outcome}
+
+module _ (call value room : ℕ) (form : Form) (known : described call ≡ Known form) where
+  -- the answer under a room is the definition's at that room
+  told : (buf after : List ℕ) (r : Converted) (answer : Answer) → length buf ≡ room → inPaper (answerOf call value room) ≡ answer
+      → Converts call value buf r after → inPaper r ≡ answer
+  told buf after r answer long computed c = ap inPaper (c .answer ∙ ap (answerOf call value) long) ∙ computed
+
+  fits : (buf after : List ℕ) (r : Converted) → needed form value ≤ length buf → Outcome call value buf r after
+      → after ≡ string form value ++ (terminator form ++ drop (needed form value) buf)
+  fits buf after r room (unknown k) = absurd (not-both call form k known)
+  fits buf after r room (short g k less) = absurd (omega (arith, ap (λ f. needed f value) (one-form call g form k known)))
+  fits buf after r room (whole g k more) =
+      ap (λ f. string f value ++ (terminator f ++ drop (needed f value) buf)) (one-form call g form k known)
+
+  lacking : (buf after : List ℕ) (r : Converted) → length buf < needed form value → Outcome call value buf r after → after ≡ buf
+  lacking buf after r less (unknown k) = refl
+  lacking buf after r less (short g k h) = refl
+  lacking buf after r less (whole g k h) = absurd (omega (arith, ap (λ f. needed f value) (one-form call g form k known)))
+
+  writes-row : needed form value ≤ room → (buf after : List ℕ) (r : Converted) (answer : Answer) → length buf ≡ room
+      → inPaper (answerOf call value room) ≡ answer → Converts call value buf r after
+      → (inPaper r ≡ answer) × (after ≡ string form value ++ (terminator form ++ drop (needed form value) buf))
+  writes-row enough buf after r answer long computed c =
+      (told buf after r answer long computed c, fits buf after r (omega arith) (outcome call value buf after r c))
+
+  lacks-row : room < needed form value → (buf after : List ℕ) (r : Converted) (answer : Answer) → length buf ≡ room
+      → inPaper (answerOf call value room) ≡ answer → Converts call value buf r after → (inPaper r ≡ answer) × (after ≡ buf)
+  lacks-row less buf after r answer long computed c =
+      (told buf after r answer long computed c, lacking buf after r (omega arith) (outcome call value buf after r c))
+
+p1 : Holds (writes 0xD8 1048576 8 "1048576" 7 8 1)
+unfolding answerOf described ranged conversion string digits enough
+p1 buf after r long c = writes-row 0xD8 1048576 8 (decimal false false Word) refl (lit≤ tt) buf after r _ long refl c
+
+p2 : Holds (lacks 0xD8 1048576 7 8)
+unfolding answerOf described ranged conversion string digits enough
+p2 buf after r long c = lacks-row 0xD8 1048576 7 (decimal false false Word) refl (lit< tt) buf after r _ long refl c
+
+p3 : Holds (writes 0xE4 1048576 10 "1 048 576" 9 10 1)
+unfolding answerOf described ranged conversion string digits enough
+p3 buf after r long c = writes-row 0xE4 1048576 10 (decimal false true Word) refl (lit≤ tt) buf after r _ long refl c
+
+p4 : Holds (writes 0xD5 1048576 2 "0" 1 2 1)
+unfolding answerOf described ranged conversion string digits enough
+p4 buf after r long c = writes-row 0xD5 1048576 2 (decimal false false Byte) refl (lit≤ tt) buf after r _ long refl c
+
+p5 : Holds (writes 0xD9 128 5 "-128" 4 5 1)
+unfolding answerOf described ranged conversion string digits enough
+p5 buf after r long c = writes-row 0xD9 128 5 (decimal true false Byte) refl (lit≤ tt) buf after r _ long refl c
+
+p6 : Holds (writes 0xE8 2147483648 15 "-2 147 483 648" 14 15 1)
+unfolding answerOf described ranged conversion string digits enough
+p6 buf after r long c = writes-row 0xE8 2147483648 15 (decimal true true Word) refl (lit≤ tt) buf after r _ long refl c
+
+p7 : Holds (writes 0xD3 1048576 7 "100000" 6 7 1)
+unfolding answerOf described ranged conversion string digits enough
+p7 buf after r long c = writes-row 0xD3 1048576 7 (hex ThreeBytes) refl (lit≤ tt) buf after r _ long refl c
+
+p8 : Holds (reads "2_1102" 6 5)
+unfolding reading numbered behind judged digit
+p8 r c = (ap numberOf (c .answer), ap valueOf (c .answer), ap placeOf (c .answer))
+
+p9 : Holds (refuses "37_1" bad-base 0)
+unfolding reading numbered behind judged digit
+p9 r c = (ap numberOf (c .answer), ap placeOf (c .answer))
+
+-- the table, whole
+pub worked-examples : All examples
+worked-examples = (p1, (p2, (p3, (p4, (p5, (p6, (p7, (p8, (p9, tt)))))))))
