@@ -1,0 +1,248 @@
+/* A clerk who copies quantities and reads them back. What is printed was checked first; at the first thing that is off the
+ * clerk says so and ends with status 1. Arguments are read as numbers; with none the clerk does the whole day's work. */
+#include <inttypes.h>
+#include <stdio.h>
+#include <stdlib.h>
+#include <string.h>
+
+#include "nosgoludd.h"
+
+/* SHEET is the most that any call needs. The margins are neighbours of what is lent: no call may touch them. */
+enum { MARGIN = 16, SHEET = 33, PAGE = 1048576, DIARY = MARGIN + 2 * PAGE + MARGIN };
+
+static uint8_t sheet[MARGIN + SHEET + MARGIN];
+static uint8_t diary[DIARY];
+static uint8_t as_it_was[DIARY];
+
+static void check(int holds, const char *claim)
+{
+    if (holds) return;
+    printf("OFF, this does not hold: %s\n", claim);
+    exit(1);
+}
+
+static const char *in_words(uint64_t answer)
+{
+    switch (nos_number(answer)) {
+    case NOS_NO_ROOM: return "no room";
+    case NOS_NO_DIGIT: return "a digit is wanted there";
+    case NOS_BAD_BASE: return "a base is 2 to 36";
+    case NOS_TOO_BIG: return "over 4294967295";
+    case NOS_NOT_ENDED: return "the number goes on";
+    case NOS_OVER_LIMIT: return "over the limit";
+    case NOS_UNKNOWN_CALL: return "unknown call";
+    case NOS_OVER_LENGTH: return "over 65535 bytes";
+    }
+    check(0, "the two functions give no other number");
+    return "";
+}
+
+/* Bytes that differ from their neighbours and are in no string, so that one moved or written is seen. */
+static void fill(uint8_t *bytes, size_t size)
+{
+    for (size_t i = 0; i < size; i++) bytes[i] = (uint8_t)(0x80 + i % 113);
+}
+
+/* Converts into the part of a paper that starts at `at`, and checks what holds of every call: the whole string stands there with
+ * its zero byte, or nothing does; and every other byte of the paper is as it was. */
+static uint64_t convert(uint32_t call, uint32_t value, uint8_t *paper, size_t size, size_t at, size_t room)
+{
+    memcpy(as_it_was, paper, size);
+    uint64_t answer = nos_convert(call, value, paper + at, room);
+    size_t place = nos_place(answer), need = nos_need(answer), written = 0;
+    check(nos_counted(answer) == NOS_IN_THE_TEXT, "a place is counted in the text");
+    if (nos_number(answer) == NOS_ACCEPTED) {
+        written = need;
+        check(written <= room, "no more is written than was lent");
+        check(place + 1 == need, "the need is the place and one more");
+        check(memchr(paper + at, 0, written) == paper + at + place, "the first zero byte is at the place");
+    } else {
+        check(place == 0, "a refused conversion has the place 0");
+        check(nos_number(answer) == NOS_NO_ROOM ? need > room : need == 0, "a need is over the room; other refusals have none");
+    }
+    check(memcmp(paper, as_it_was, at) == 0, "every byte before what was written is as it was");
+    size_t behind = at + written;
+    check(memcmp(paper + behind, as_it_was + behind, size - behind) == 0, "every byte behind what was written is as it was");
+    return answer;
+}
+
+static uint64_t on_a_clean_sheet(uint32_t call, uint32_t value, size_t room)
+{
+    check(room <= SHEET, "a sheet is enough for every call");
+    fill(sheet, sizeof sheet);
+    return convert(call, value, sheet, sizeof sheet, MARGIN, room);
+}
+
+static const char *on_the_sheet(void) { return (const char *)sheet + MARGIN; }
+
+/* Asks with one byte too few, and again with the need that the refusal carries. */
+static void ask_twice(uint32_t call, uint32_t value, const char *string)
+{
+    size_t little = strlen(string);
+    uint64_t refused = on_a_clean_sheet(call, value, little);
+    check(nos_number(refused) == NOS_NO_ROOM && nos_need(refused) == little + 1, "one byte too few is refused, with the need");
+    uint64_t answer = on_a_clean_sheet(call, value, nos_need(refused));
+    check(nos_number(answer) == NOS_ACCEPTED && strcmp(on_the_sheet(), string) == 0, string);
+    printf("&%02" PRIX32 " of %" PRIu32 ": room %zu, refused %" PRIu32 ", need %zu, no byte changed; room %zu: %s\n", call, value,
+           little, nos_number(refused), nos_need(refused), nos_need(refused), on_the_sheet());
+}
+
+static void conversions(void)
+{
+    ask_twice(NOS_HEX_6, 1048576, "100000");
+    ask_twice(NOS_HEX_8, 1048576, "00100000");
+    ask_twice(NOS_UNSIGNED_4, 1048576, "1048576");
+    ask_twice(NOS_UNSIGNED_1, 1048576, "0");
+    ask_twice(NOS_SIGNED_1, 128, "-128");
+    ask_twice(NOS_BINARY_2, 321, "0000000101000001");
+    ask_twice(NOS_BINARY_4, 4294967295u, "11111111111111111111111111111111");
+    ask_twice(NOS_SPACED_UNSIGNED_4, 1048576, "1 048 576");
+    ask_twice(NOS_SPACED_SIGNED_4, 2147483648u, "-2 147 483 648");
+    ask_twice(NOS_SPACED_SIGNED_4, (uint32_t)-100, "-100");
+    ask_twice(NOS_DECIMAL, (uint32_t)-7, "-7");
+    ask_twice(0x20000 + NOS_UNSIGNED_4, 96, "96");
+}
+
+/* A call that nobody knows is refused so at every room; and no bytes lent is a NULL pointer that no one follows. */
+static void other_refusals(void)
+{
+    uint64_t with_room = on_a_clean_sheet(0xE9, 1, SHEET), without = on_a_clean_sheet(0xE9, 1, 0);
+    check(nos_number(with_room) == NOS_UNKNOWN_CALL && with_room == without, "&E9 is unknown at every room");
+    printf("&E9: refused %" PRIu32 ", %s, no byte changed\n", nos_number(without), in_words(without));
+    uint64_t asked = nos_convert(NOS_UNSIGNED_4, 1048576, NULL, 0);
+    check(nos_number(asked) == NOS_NO_ROOM && nos_need(asked) == 8, "NULL with room 0 is refused, with the need");
+    printf("no buffer: refused %" PRIu32 ", %s, need %zu\n", nos_number(asked), in_words(asked), nos_need(asked));
+    uint64_t empty = nos_read_unsigned(NULL, 0, 1, NOS_NO_LIMIT);
+    check(nos_number(empty) == NOS_NO_DIGIT && nos_place(empty) == 0, "NULL with length 0 has no digit at 0");
+    printf("no text: refused %" PRIu32 " at %zu, %s\n", nos_number(empty), nos_place(empty), in_words(empty));
+}
+
+/* The diary's case: a quantity that does not fit the end of a page goes to the next one whole, and the rows behind it follow. */
+static void across_the_page(void)
+{
+    static const uint32_t quantities[] = {96, 1250, 1048576, 7, 65536};
+    enum { ROWS = sizeof quantities / sizeof quantities[0] };
+    size_t place[ROWS], room[ROWS], at = MARGIN + PAGE - 15, left = 15;
+    fill(diary, sizeof diary);
+    for (size_t row = 0; row < ROWS; row++) {
+        uint64_t answer = convert(NOS_UNSIGNED_4, quantities[row], diary, sizeof diary, at, left);
+        if (nos_number(answer) == NOS_NO_ROOM) {
+            check(at < MARGIN + PAGE, "a whole page is enough");
+            printf("%zu bytes left on the page: %" PRIu32 " refused, need %zu, no byte changed; the next page:\n", left,
+                   quantities[row], nos_need(answer));
+            at = MARGIN + PAGE;
+            left = PAGE;
+            answer = convert(NOS_UNSIGNED_4, quantities[row], diary, sizeof diary, at, left);
+        }
+        char plain[SHEET];
+        snprintf(plain, sizeof plain, "%" PRIu32, quantities[row]);
+        check(nos_number(answer) == NOS_ACCEPTED && strcmp((const char *)diary + at, plain) == 0, plain);
+        printf("%zu bytes left on the page: %s\n", left, (const char *)diary + at);
+        place[row] = at;
+        room[row] = left;
+        at += nos_need(answer);
+        left -= nos_need(answer);
+    }
+    check(at > MARGIN + PAGE, "a row did not fit the first page");
+    for (size_t row = 0; row < ROWS; row++) {
+        /* a text has at most 65,535 bytes; the zero byte ends the number long before */
+        size_t length = room[row] < NOS_LONGEST ? room[row] : NOS_LONGEST;
+        uint64_t answer = nos_read_unsigned(diary + place[row], length, 1, NOS_NO_LIMIT);
+        check(nos_number(answer) == NOS_ACCEPTED && nos_value(answer) == quantities[row], "every row is read back");
+    }
+    printf("%d rows read back from the pages\n", ROWS);
+}
+
+/* Every call whose string can be read: what must stand before it, and the bits of the value that it uses. */
+static void read_back(void)
+{
+    static const struct { uint32_t call; const char *lead; uint32_t bits; } calls[] = {
+        {NOS_HEX_1, "&", 0xF},        {NOS_HEX_2, "&", 0xFF},         {NOS_HEX_4, "&", 0xFFFF},
+        {NOS_HEX_6, "&", 0xFFFFFF},   {NOS_HEX_8, "&", 0xFFFFFFFF},   {NOS_UNSIGNED_1, "", 0xFF},
+        {NOS_UNSIGNED_2, "", 0xFFFF}, {NOS_UNSIGNED_3, "", 0xFFFFFF}, {NOS_UNSIGNED_4, "", 0xFFFFFFFF},
+        {NOS_BINARY_1, "2_", 0xFF},   {NOS_BINARY_2, "2_", 0xFFFF},   {NOS_BINARY_3, "2_", 0xFFFFFF},
+        {NOS_BINARY_4, "2_", 0xFFFFFFFF},
+    };
+    static const uint32_t values[] = {0, 1, 9, 10, 255, 256, 65535, 65536, 1048576, 16777215, 2147483648u, 4294967295u};
+    enum { CALLS = sizeof calls / sizeof calls[0], VALUES = sizeof values / sizeof values[0] };
+    for (size_t c = 0; c < CALLS; c++)
+        for (size_t v = 0; v < VALUES; v++) {
+            char text[2 + SHEET];
+            uint64_t made = on_a_clean_sheet(calls[c].call, values[v], SHEET);
+            check(nos_number(made) == NOS_ACCEPTED, "a sheet is enough for every call");
+            size_t length = (size_t)snprintf(text, sizeof text, "%s%s", calls[c].lead, on_the_sheet());
+            uint64_t answer = nos_read_unsigned((const uint8_t *)text, length, 1, NOS_NO_LIMIT);
+            check(nos_number(answer) == NOS_ACCEPTED && nos_place(answer) == length, text);
+            check(nos_value(answer) == (values[v] & calls[c].bits), text);
+        }
+    printf("%d values written by %d calls each, and read back\n", VALUES, CALLS);
+}
+
+static uint64_t read_number(const char *text, size_t length, uint32_t whole, uint32_t limit)
+{
+    uint64_t answer = nos_read_unsigned((const uint8_t *)text, length, whole, limit);
+    check(nos_counted(answer) == NOS_IN_THE_TEXT && nos_place(answer) <= length, "a place is counted in the text");
+    check(nos_number(answer) == NOS_ACCEPTED || nos_value(answer) == 0, "a refusal has no value");
+    return answer;
+}
+
+static void show(const char *text, const char *how, uint64_t answer)
+{
+    if (nos_number(answer) == NOS_ACCEPTED)
+        printf("%s%s: %" PRIu32 ", read up to %zu\n", text, how, nos_value(answer), nos_place(answer));
+    else
+        printf("%s%s: refused %" PRIu32 " at %zu, %s\n", text, how, nos_number(answer), nos_place(answer), in_words(answer));
+}
+
+static void readings(void)
+{
+    static const struct { const char *text, *how; uint32_t whole, limit, number; size_t place; uint32_t value; } lines[] = {
+        {"1048576", "", 0, NOS_NO_LIMIT, NOS_ACCEPTED, 7, 1048576},
+        {"  &fFx", "", 0, NOS_NO_LIMIT, NOS_ACCEPTED, 5, 255},
+        {"2_1102", "", 0, NOS_NO_LIMIT, NOS_ACCEPTED, 5, 6},
+        {"36_Zz", "", 0, NOS_NO_LIMIT, NOS_ACCEPTED, 5, 1295},
+        {"4294967295", "", 0, NOS_NO_LIMIT, NOS_ACCEPTED, 10, 4294967295u},
+        {" 4294967296", "", 0, NOS_NO_LIMIT, NOS_TOO_BIG, 1, 0},
+        {"37_1", "", 0, NOS_NO_LIMIT, NOS_BAD_BASE, 0, 0},
+        {"4294967298_1", "", 0, NOS_NO_LIMIT, NOS_BAD_BASE, 0, 0},
+        {"&G", "", 0, NOS_NO_LIMIT, NOS_NO_DIGIT, 1, 0},
+        {"2_", "", 0, NOS_NO_LIMIT, NOS_NO_DIGIT, 2, 0},
+        {"12kg", "", 0, NOS_NO_LIMIT, NOS_ACCEPTED, 2, 12},
+        {"12kg", " (whole)", 1, NOS_NO_LIMIT, NOS_NOT_ENDED, 2, 0},
+        {"12 sacks", " (whole)", 1, NOS_NO_LIMIT, NOS_ACCEPTED, 2, 12},
+        {"99999999999x", " (whole)", 1, NOS_NO_LIMIT, NOS_TOO_BIG, 0, 0},
+        {"100", " (limit 100)", 0, 100, NOS_ACCEPTED, 3, 100},
+        {" 101", " (limit 100)", 0, 100, NOS_OVER_LIMIT, 1, 0},
+    };
+    for (size_t i = 0; i < sizeof lines / sizeof lines[0]; i++) {
+        uint64_t answer = read_number(lines[i].text, strlen(lines[i].text), lines[i].whole, lines[i].limit);
+        check(nos_number(answer) == lines[i].number, lines[i].text);
+        check(nos_place(answer) == lines[i].place && nos_value(answer) == lines[i].value, lines[i].text);
+        show(lines[i].text, lines[i].how, answer);
+    }
+    /* the longest text that is read, and one byte more */
+    static char text[NOS_LONGEST + 1];
+    memset(text, ' ', sizeof text);
+    text[NOS_LONGEST - 1] = '7';
+    uint64_t longest = read_number(text, NOS_LONGEST, 1, NOS_NO_LIMIT);
+    check(nos_number(longest) == NOS_ACCEPTED && nos_value(longest) == 7, "65535 bytes are read");
+    check(nos_place(longest) == NOS_LONGEST, "the place of a text's end is its length");
+    show("65534 spaces and 7", "", longest);
+    uint64_t longer = read_number(text, sizeof text, 1, NOS_NO_LIMIT);
+    check(nos_number(longer) == NOS_OVER_LENGTH && nos_place(longer) == 0, "65536 bytes are not");
+    show("the same and a space", "", longer);
+}
+
+int main(int argc, char **argv)
+{
+    if (argc < 2) {
+        conversions();
+        other_refusals();
+        across_the_page();
+        read_back();
+        readings();
+    }
+    for (int i = 1; i < argc; i++) show(argv[i], "", read_number(argv[i], strlen(argv[i]), 0, NOS_NO_LIMIT));
+    puts("nothing is off");
+    return 0;
+}
