@@ -1,2 +1,3 @@
 -- Laws that every chapter's proofs share.
 pub mod Choice
+pub mod DemandThree

@@ -1,5 +1,7 @@
 // What every chapter shares: the two kinds of place, and the refusal numbers by name.
 
+pub mod faults;
+
 // A place in a text, counted in bytes from its start.
 pub struct TextPlace(pub usize);
 

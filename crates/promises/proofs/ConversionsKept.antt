@@ -104,7 +104,7 @@ module _ (call value more : ℕ) (buf buf′ : List ℕ) (longer : length buf′
   grows : (after after′ : List ℕ) (r r′ : Converted) → Outcome call value buf r after → Outcome call value buf′ r′ after′
       → (inPaper r .number ≡ no-room → ⊥) → Grows buf after buf′ after′ more (inPaper r) (inPaper r′)
   grows after after′ r r′ (unknown k) (unknown k′) n =
-      record { number = refl; place = refl; need = refl; free = longer; written = refl; behind = refl }
+      record { same = record { number = refl; place = refl; need = refl; free = longer }; written = refl; behind = refl }
   grows after after′ r r′ (unknown k) (short g k′ less) n = absurd (not-both call g k k′)
   grows after after′ r r′ (unknown k) (whole g k′ room) n = absurd (not-both call g k k′)
   grows after after′ r r′ (short f k less) o n = absurd (n refl)
@@ -115,10 +115,7 @@ module _ (call value more : ℕ) (buf buf′ : List ℕ) (longer : length buf′
       let long : length (string g value) ≡ length (string f value) = ap (λ h. length (string h value)) same in
       let need : needed g value ≡ needed f value = ap (λ h. needed h value) same in
       record {
-        number = refl;
-        place = long;
-        need = need;
-        free = omega arith;
+        same = record { number = refl; place = long; need = need; free = omega arith };
         written =
             ap (λ h. take (needed f value) (string h value ++ (terminator h ++ drop (needed h value) buf′))) same
             ∙ take-front f value (drop (needed f value) buf′) ∙ sym (take-front f value (drop (needed f value) buf));

@@ -5,7 +5,7 @@ use mathlib.Core.List.{List, _++_}
 use mathlib.Core.Logic.{_↔_}
 use Prim.Native.Nat.{ℕ, _+_, _≤_, _<_}
 use lib.ListN.{length, take, drop}
-use Rattle.paper.specs.Answers.{Answer}
+use Rattle.paper.specs.Answers.{Answer, Grown}
 use Rattle.paper.specs.Refusals.{no-room, unknown-call}
 use Rattle.numbers.specs.Strings.{used, string, terminator, needed, inPaper}
 use Rattle.numbers.specs.Calls.{described}
@@ -53,10 +53,7 @@ ReadsBack =
 -- Demand 3: under a larger room an answer other than No room stays the same, its free up by the room added; the same bytes are
 -- written, and what is behind them stays
 pub record Grows (buf after buf′ after′ : List ℕ) (more : ℕ) (a a′ : Answer) : Type 0 where
-  pub number : a′ .number ≡ a .number
-  pub place : a′ .place ≡ a .place
-  pub need : a′ .need ≡ a .need
-  pub free : a′ .free ≡ a .free + more
+  pub same : Grown more a a′
   pub written : take (a .need) after′ ≡ take (a .need) after
   pub behind : drop (a .need) after′ ≡ drop (a .need) buf′
 

@@ -1,0 +1,196 @@
+-- Demand 3, over all traces: what more look-ups and more room change in an answer, and when No room and Allowance spent come.
+use mathlib.Core.Path.{_≡_, refl, ap, sym, subst, subst₂, _∙_}
+use mathlib.Core.Bool.{cond}
+use mathlib.Core.Logic.{_↔_}
+use Prim.Native.Nat.{ℕ, zero, suc, _+_, _-_, _≤_, _<_}
+use native.Mathlib.Nat.{suc-add, zero-add, add-assoc}
+use native.Mathlib.Decide.{decLt}
+use native.Mathlib.Omega.{arith}
+use lib.Dec.{ltb}
+use lib.ListN.{length}
+use Rattle.paper.specs.Answers.{Answer, Grown}
+use Rattle.paper.specs.Refusals.{no-room, allowance-spent}
+use Rattle.paper.specs.Traces.{numberOf, Reference, Trace, ended, refused, gives, asks, spends, enters, bytes, Run, finished, stopped, behind, spending, run, fit, answer, Ending, done, failed, beyond, ending, reached, lookUps}
+use Rattle.paper.specs.declared.faults.Fault.{Fault}
+use Rattle.paper.specs.declared.faults.Fault.the-variants.{NoDigit, BadBase, TooBig, BadCode, BadString, BadReference, UnknownName, TooDeep, BadExpression, ZeroDivisor, NotAnInteger}
+use Rattle.paper.proofs.Choice.{below, not-below, either}
+
+-- no fault has the number of No room or of Allowance spent
+pub fault-number : (f : Fault) → (1 < numberOf f) × (numberOf f ≡ allowance-spent → ⊥)
+fault-number NoDigit = omega arith
+fault-number BadBase = omega arith
+fault-number TooBig = omega arith
+fault-number BadCode = omega arith
+fault-number BadString = omega arith
+fault-number BadReference = omega arith
+fault-number UnknownName = omega arith
+fault-number TooDeep = omega arith
+fault-number BadExpression = omega arith
+fault-number ZeroDivisor = omega arith
+fault-number NotAnInteger = omega arith
+
+-- the run that reaches where the reading leads, with so many look-ups left
+abbrev with-left : ℕ → Ending → Run
+with-left left (done end) = finished end left
+with-left left (failed fault place) = stopped (numberOf fault) place
+
+behind-ending : (o : Ending) (place more : ℕ) (rest : Trace)
+    → run rest (lookUps rest + more) ≡ with-left more (ending rest)
+    → behind (with-left (reached o (lookUps rest) + more) o) place (run rest) ≡ with-left more (beyond o place (ending rest))
+behind-ending (done end) place more rest h = h
+behind-ending (failed fault inner) place more rest h = refl
+
+-- with enough look-ups the run goes where the reading leads
+pub enough : (t : Trace) (more : ℕ) → run t (lookUps t + more) ≡ with-left more (ending t)
+enough (ended end) more = ap (finished end) (zero-add more)
+enough (refused fault place) more = refl
+enough (gives byte rest) more = enough rest more
+enough (asks name rest) more = enough rest more
+enough (spends place rest) more = ap (λ n. spending place n (run rest)) (suc-add (lookUps rest) more) ∙ enough rest more
+enough (enters reference value rest) more =
+    ap (λ n. behind (run value n) (reference .place) (run rest)) (add-assoc (lookUps value) (reached (ending value) (lookUps rest)) more)
+    ∙ ap (λ r. behind r (reference .place) (run rest)) (enough value (reached (ending value) (lookUps rest) + more))
+    ∙ behind-ending (ending value) (reference .place) more rest (enough rest more)
+
+-- with too few it stops at Allowance spent
+record Spent (r : Run) : Type 0 where
+  place : ℕ
+  is : r ≡ stopped allowance-spent place
+
+spent-behind : (r : Run) (place : ℕ) (rest : ℕ → Run) → Spent r → Spent (behind r place rest)
+spent-behind r place rest s = record { place = place; is = ap (λ r. behind r place rest) (s .is) }
+
+spent-rest : (o : Ending) (place m : ℕ) (rest : Trace) → m < reached o (lookUps rest) → (m < lookUps rest → Spent (run rest m))
+    → Spent (behind (with-left m o) place (run rest))
+spent-rest (done end) place m rest less h = h less
+spent-rest (failed fault inner) place m rest less h = absurd (omega arith)
+
+too-few : (t : Trace) (left : ℕ) → left < lookUps t → Spent (run t left)
+too-few (ended end) left less = absurd (omega arith)
+too-few (refused fault place) left less = absurd (omega arith)
+too-few (gives byte rest) left less = too-few rest left less
+too-few (asks name rest) left less = too-few rest left less
+too-few (spends place rest) zero less = record { place = place; is = refl }
+too-few (spends place rest) (suc left) less = too-few rest left (omega arith)
+too-few (enters reference value rest) left less = go (decLt left (lookUps value)) (too-few value left) (λ m. too-few rest m)
+  where
+    go : Dec (left < lookUps value) → (left < lookUps value → Spent (run value left)) → ((m : ℕ) → m < lookUps rest → Spent (run rest m))
+        → Spent (behind (run value left) (reference .place) (run rest))
+    go (yes p) inner outer = spent-behind (run value left) (reference .place) (run rest) (inner p)
+    go (no p) inner outer =
+        let m : ℕ = left - lookUps value in
+        let split : lookUps value + m ≡ left = omega arith in
+        subst (λ r. Spent (behind r (reference .place) (run rest))) (sym (enough value m) ∙ ap (run value) split)
+        (spent-rest (ending value) (reference .place) m rest (omega arith) (outer m))
+
+-- an answer does not see how many look-ups are left
+fit-left : (o : Ending) (left left′ need room : ℕ) → fit (with-left left o) need room ≡ fit (with-left left′ o) need room
+fit-left (done end) left left′ need room = refl
+fit-left (failed fault place) left left′ need room = refl
+
+fit-number : (o : Ending) (left need room : ℕ) → fit (with-left left o) need room .number ≡ allowance-spent → ⊥
+fit-number (done end) left need room =
+    either (λ (a : Answer). a .number ≡ allowance-spent → ⊥) (ltb room need) (λ _. λ e. omega arith) (λ _. λ e. omega arith)
+fit-number (failed fault place) left need room = fault-number fault .1
+
+module _ (t : Trace) where
+  -- the answer where the look-ups are enough
+  reading-answer : (allowance room : ℕ) → lookUps t ≤ allowance → answer t allowance room ≡ fit (with-left 0 (ending t)) (length (bytes t)) room
+  reading-answer allowance room h =
+      let m : ℕ = allowance - lookUps t in
+      let split : lookUps t + m ≡ allowance = omega arith in
+      ap (λ r. fit r (length (bytes t)) room) (ap (run t) (sym split) ∙ enough t m) ∙ fit-left (ending t) m 0 (length (bytes t)) room
+
+  -- and where they are not
+  spent-answer : (allowance room : ℕ) → allowance < lookUps t → answer t allowance room .number ≡ allowance-spent
+  spent-answer allowance room h = ap (λ r. fit r (length (bytes t)) room .number) (too-few t allowance h .is)
+
+  -- Allowance spent comes exactly when the reading reaches one look-up more than allowed before any other refusal
+  pub spent-exactly : (allowance room : ℕ) → (answer t allowance room .number ≡ allowance-spent) ↔ (allowance < lookUps t)
+  spent-exactly allowance room = (λ e. less e (decLt allowance (lookUps t)), spent-answer allowance room)
+    where
+      less : answer t allowance room .number ≡ allowance-spent → Dec (allowance < lookUps t) → allowance < lookUps t
+      less e (yes p) = p
+      less e (no p) =
+          absurd
+          (fit-number (ending t) 0 (length (bytes t)) room
+          (sym (ap (λ (a : Answer). a .number) (reading-answer allowance room (omega arith))) ∙ e))
+
+  -- an answer other than Allowance spent stays the same under every larger allowance
+  pub more-allowance : (allowance more room : ℕ) → (answer t allowance room .number ≡ allowance-spent → ⊥)
+      → answer t (allowance + more) room ≡ answer t allowance room
+  more-allowance allowance more room n = go (decLt allowance (lookUps t))
+    where
+      go : Dec (allowance < lookUps t) → answer t (allowance + more) room ≡ answer t allowance room
+      go (yes p) = absurd (n (spent-answer allowance room p))
+      go (no p) = reading-answer (allowance + more) room (omega arith) ∙ sym (reading-answer allowance room (omega arith))
+
+-- the reading succeeds
+abbrev pub Succeeds : Trace → Type 0
+Succeeds t = (end : ℕ) × (ending t ≡ done end)
+
+-- a finished run is refused for want of room, or accepted
+refused-fit : (end left need room : ℕ) → room < need
+    → record { number = no-room; place = 0; need = need; free = room } ≡ fit (finished end left) need room
+refused-fit end left need room h = below room need _ _ h refl
+
+accepted-fit : (end left need room : ℕ) → need ≤ room
+    → record { number = 0; place = end; need = need; free = room - need } ≡ fit (finished end left) need room
+accepted-fit end left need room h = not-below room need _ _ h refl
+
+fit-room : (o : Ending) (left need room : ℕ)
+    → (fit (with-left left o) need room .number ≡ no-room) ↔ (((end : ℕ) × (o ≡ done end)) × (room < need))
+fit-room (done end) left need room =
+    (λ e. ((end, refl), over e (decLt room need)), λ s. sym (ap (λ (a : Answer). a .number) (refused-fit end left need room (s .1))))
+  where
+    over : fit (finished end left) need room .number ≡ no-room → Dec (room < need) → room < need
+    over e (yes p) = p
+    over e (no p) = absurd (omega (arith, ap (λ (a : Answer). a .number) (accepted-fit end left need room (omega arith))))
+fit-room (failed fault place) left need room =
+    (λ e. absurd (omega (arith, fault-number fault)), λ s. absurd (clash (s .0 .0) (s .0 .1)))
+  where
+    clash : (end : ℕ) → failed fault place ≡ done end → ⊥
+    clash end e = let z : _≡_ {A = ℕ} 0 1 = cc in omega arith
+
+fit-grows : (r : Run) (need room more : ℕ) → (fit r need room .number ≡ no-room → ⊥) → Grown more (fit r need room) (fit r need (room + more))
+fit-grows (stopped number place) need room more n = record { number = refl; place = refl; need = refl; free = refl }
+fit-grows (finished end left) need room more n = go (decLt room need)
+  where
+    go : Dec (room < need) → Grown more (fit (finished end left) need room) (fit (finished end left) need (room + more))
+    go (yes p) = absurd (n (sym (ap (λ (a : Answer). a .number) (refused-fit end left need room p))))
+    go (no p) =
+        let fits : need ≤ room = omega arith in
+        subst₂ (Grown more) (accepted-fit end left need room fits) (accepted-fit end left need (room + more) (omega arith))
+        (record { number = refl; place = refl; need = refl; free = omega arith })
+
+-- No room comes exactly when the reading succeeds within its allowance and needs more than the room
+pub no-room-exactly : (t : Trace) (allowance room : ℕ)
+    → (answer t allowance room .number ≡ no-room) ↔ ((lookUps t ≤ allowance) × Succeeds t × (room < length (bytes t)))
+no-room-exactly t allowance room = (λ e. there e (decLt allowance (lookUps t)), back)
+  where
+    there : answer t allowance room .number ≡ no-room → Dec (allowance < lookUps t)
+        → (lookUps t ≤ allowance) × Succeeds t × (room < length (bytes t))
+    there e (yes p) = absurd (omega (arith, spent-answer t allowance room p))
+    there e (no p) =
+        let within : lookUps t ≤ allowance = omega arith in
+        let both = fit-room (ending t) 0 (length (bytes t)) room .0
+        (sym (ap (λ (a : Answer). a .number) (reading-answer t allowance room within)) ∙ e) in
+        (within, both .0, both .1)
+
+    back : (lookUps t ≤ allowance) × Succeeds t × (room < length (bytes t)) → answer t allowance room .number ≡ no-room
+    back s =
+        ap (λ (a : Answer). a .number) (reading-answer t allowance room (s .0))
+        ∙ fit-room (ending t) 0 (length (bytes t)) room .1 (s .1, s .2)
+
+-- its need is the length of the bytes given, whatever the allowance
+pub no-room-need : (t : Trace) (allowance room : ℕ) → answer t allowance room .number ≡ no-room → answer t allowance room .need ≡ length (bytes t)
+no-room-need t allowance room e =
+    let s = no-room-exactly t allowance room .0 e in
+    ap (λ (a : Answer). a .need) (reading-answer t allowance room (s .0))
+    ∙ ap (λ o. fit (with-left 0 o) (length (bytes t)) room .need) (s .1 .1)
+    ∙ sym (ap (λ (a : Answer). a .need) (refused-fit (s .1 .0) 0 (length (bytes t)) room (s .2)))
+
+-- an answer other than No room stays the same under every larger room, its free up by exactly the room added
+pub more-room : (t : Trace) (allowance room more : ℕ) → (answer t allowance room .number ≡ no-room → ⊥)
+    → Grown more (answer t allowance room) (answer t allowance (room + more))
+more-room t allowance room more = fit-grows (run t allowance) (length (bytes t)) room more
