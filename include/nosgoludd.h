@@ -1,4 +1,4 @@
-/* Nosgoludd: numbers to strings and strings to numbers, whole or refused.
+/* Nosgoludd: numbers to strings, numbers read from texts, and variables in a table, whole or refused.
  *
  * An office certifies organic farms from old diaries. Once a quantity fell across the end of a 1,048,576-byte buffer, the
  * conversion cut it, and the rows behind it were never seen. So a conversion comes whole, or it is refused and writes nothing,
@@ -14,10 +14,10 @@
  * THE ANSWER is one number, so that a refusal writes nothing anywhere:
  *
  *   bits 0 to 7     nos_number    the refusal number; 0: accepted
- *   bits 8 to 15    nos_counted   what the place is counted in: 0 the text, 1 the table (always 0 from the functions below)
+ *   bits 8 to 15    nos_counted   what the place is counted in: 0 the text, 1 the table
  *   bits 16 to 31   nos_place     the place
  *   bits 32 to 63   nos_need      nos_convert: the need
- *                   nos_value     nos_read_unsigned: the value
+ *                   nos_value     nos_read_unsigned: the value; nos_check_table: the number of records; nos_look_up: the kind
  *
  * &D0 is 0xD0, as the RISC OS manual writes it.
  */
@@ -31,7 +31,8 @@
 extern "C" {
 #endif
 
-/* One numbering for the whole library. nos_convert refuses by 14 and 1, nos_read_unsigned by 18, 3, 2, 4, 5 and 6. */
+/* One numbering for the whole library. nos_convert refuses by 14 and 1, nos_read_unsigned by 18, 3, 2, 4, 5 and 6, nos_check_table
+ * by 18 and 13, nos_look_up by 18, 13 and 10. */
 enum nos_refusal {
     NOS_ACCEPTED = 0,
     NOS_NO_ROOM = 1,
@@ -96,7 +97,7 @@ enum nos_call {
  */
 uint64_t nos_convert(uint32_t call, uint32_t value, uint8_t *buf, size_t room);
 
-#define NOS_LONGEST 65535u        /* the longest text that is read, in bytes */
+#define NOS_LONGEST 65535u        /* the longest text or table that is read, in bytes */
 #define NOS_NO_LIMIT 4294967295u  /* a limit that refuses nothing */
 
 /* Reads one unsigned number at the start of a text. Spaces (byte 32 alone) are skipped; then stands
@@ -127,6 +128,33 @@ uint64_t nos_convert(uint32_t call, uint32_t value, uint8_t *buf, size_t room);
  *   4294967295    itself, at 10      4294967296      refused 4 at 0
  */
 uint64_t nos_read_unsigned(const uint8_t *text, size_t length, uint32_t whole, uint32_t limit);
+
+enum nos_kind { NOS_STRING = 0, NOS_INTEGER = 1, NOS_MACRO = 2 };
+
+/* Whether a table of variables is good. A table is records one behind the other, each
+ *
+ *   86, 82, kind, name length (1 to 32), value length (0 to 255), name, value
+ *
+ * Kind 0 is a string, 1 an integer (4 bytes, the lowest first), 2 a macro. Name bytes are 33 to 126 and not 34, 60 or 62. Names are
+ * equal when they differ only in the case of A to Z; no two records have equal names. At most 256 records; no record is good too.
+ *
+ *   accepted   the number of records; place 0
+ *   refused    18 NOS_OVER_LENGTH   the table is longer than 65,535 bytes; place 0
+ *              13 NOS_BAD_TABLE     the place of the first bad record's mark; the later of two equal names is the bad one, and so is
+ *                                   anything behind 256 records
+ * Every place is counted in the table.
+ */
+uint64_t nos_check_table(const uint8_t *table, size_t length);
+
+/* Looks a name up in a table. The whole table is checked first.
+ *
+ *   accepted   the record's place (that of its mark), and its kind. Its value lies at place + 5 + table[place + 3], and has
+ *              table[place + 4] bytes, all of them inside the table
+ *   refused    18 and 13 as by nos_check_table, then
+ *              10 NOS_UNKNOWN_NAME   no record has an equal name; place 0
+ * Every place is counted in the table.
+ */
+uint64_t nos_look_up(const uint8_t *table, size_t length, const uint8_t *name, size_t name_length);
 
 static inline uint32_t nos_number(uint64_t answer) { return (uint32_t)(answer & 0xFF); }
 static inline uint32_t nos_counted(uint64_t answer) { return (uint32_t)(answer >> 8 & 0xFF); }

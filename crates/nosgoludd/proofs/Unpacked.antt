@@ -8,9 +8,12 @@ use Rattle.paper.specs.Answers.{Answer}
 use Rattle.numbers.specs.Strings.{inPaper}
 use Rattle.numbers.specs.Calls.{answerOf}
 use Rattle.numbers.proofs.Bounds.{answer-small}
-use Rattle.reader.specs.Reading.{reading, numberOf, placeOf, valueOf}
+use Rattle.reader.specs.Reading as Reading
+use Rattle.reader.specs.Reading.{reading}
 use Rattle.reader.proofs.Bounds.{reading-bounded}
-use Rattle.nosgoludd.specs.Packed.{packed, packedConversion, packedReading}
+use Rattle.variables.specs.Tables.{checked, lookedUp, numberOf, placeOf, countOf, foundNumber, foundPlace, foundKind}
+use Rattle.variables.proofs.Bounds.{checked-bounded, looked-up-bounded}
+use Rattle.nosgoludd.specs.Packed.{packed, packedConversion, packedReading, packedCheck, packedFound}
 
 pub record Unpacks (r number counted place high : ℕ) : Type 0 where
   pub number-is : r % 256 ≡ number
@@ -29,7 +32,18 @@ conversion-unpacks call value room =
     unpacks _ 0 _ _ (omega (arith, small .number)) (omega arith) (omega (arith, small .place))
 
 pub reading-unpacks : (text : List ℕ) (whole : Bool) (limit : ℕ)
-    → let a = reading text whole limit in Unpacks (packedReading a) (numberOf a) 0 (placeOf a) (valueOf a)
+    → let a = reading text whole limit in Unpacks (packedReading a) (Reading.numberOf a) 0 (Reading.placeOf a) (Reading.valueOf a)
 reading-unpacks text whole limit =
     let small = reading-bounded text whole limit in
     unpacks _ 0 _ _ (omega (arith, small .number)) (omega arith) (omega (arith, small .place))
+
+pub check-unpacks : (table : List ℕ) → let a = checked table in Unpacks (packedCheck a) (numberOf a) 1 (placeOf a) (countOf a)
+check-unpacks table =
+    let small = checked-bounded table in
+    unpacks _ 1 _ _ (omega (arith, small .number)) (omega arith) (omega (arith, small .place))
+
+pub look-up-unpacks : (table name : List ℕ)
+    → let a = lookedUp table name in Unpacks (packedFound a) (foundNumber a) 1 (foundPlace a) (foundKind a)
+look-up-unpacks table name =
+    let small = looked-up-bounded table name in
+    unpacks _ 1 _ _ (omega (arith, small .number)) (omega arith) (omega (arith, small .place))

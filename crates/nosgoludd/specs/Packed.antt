@@ -3,8 +3,11 @@ use Prim.Native.Nat.{ℕ, _+_, _*_}
 use Rattle.paper.specs.Answers.{Answer}
 use Rattle.numbers.specs.Strings.{inPaper}
 use Rattle.numbers.specs.declared.Converted.{Converted}
-use Rattle.reader.specs.Reading.{numberOf, placeOf, valueOf}
+use Rattle.reader.specs.Reading as Reading
 use Rattle.reader.specs.declared.Reading.{Reading}
+use Rattle.variables.specs.Tables.{numberOf, placeOf, countOf, foundNumber, foundPlace, foundKind}
+use Rattle.variables.specs.declared.Checked.{Checked}
+use Rattle.variables.specs.declared.Found.{Found}
 
 abbrev pub packed : ℕ → ℕ → ℕ → ℕ → ℕ
 packed number counted place high = number + 256 * counted + 65536 * place + 4294967296 * high
@@ -16,4 +19,10 @@ abbrev pub packedConversion : Converted → ℕ
 packedConversion r = packedAnswer (inPaper r)
 
 abbrev pub packedReading : Reading → ℕ
-packedReading r = packed (numberOf r) 0 (placeOf r) (valueOf r)
+packedReading r = packed (Reading.numberOf r) 0 (Reading.placeOf r) (Reading.valueOf r)
+
+abbrev pub packedCheck : Checked → ℕ
+packedCheck r = packed (numberOf r) 1 (placeOf r) (countOf r)
+
+abbrev pub packedFound : Found → ℕ
+packedFound r = packed (foundNumber r) 1 (foundPlace r) (foundKind r)

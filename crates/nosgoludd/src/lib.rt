@@ -6,12 +6,18 @@ ghost use lib.Dec.{eqb};
 ghost use lib.ListN.{length};
 ghost use Rattle.numbers.specs.Calls.{answerOf, bufferOf};
 ghost use Rattle.reader.specs.Reading.{reading};
-ghost use Rattle.nosgoludd.specs.Packed.{packed, packedConversion, packedReading};
+ghost use Rattle.variables.specs.Tables.{checked, lookedUp};
+ghost use Rattle.nosgoludd.specs.Packed.{packed, packedConversion, packedReading, packedCheck, packedFound};
 use numbers::Converted;
+use paper::UNKNOWN_NAME;
 use reader::Reading;
+use variables::Checked;
+use variables::Found;
 
 // What a place is counted in.
 const IN_THE_TEXT: u64 = 0;
+
+const IN_THE_TABLE: u64 = 1;
 
 // The parts of an answer in one number: the refusal number in bits 0 to 7, what the place is counted in in bits 8 to 15, the
 // place in bits 16 to 31, the need or the value in bits 32 to 63.
@@ -54,5 +60,31 @@ pub extern "C" fn nos_read_unsigned(text: &[u8], whole: u32, limit: u32) -> u64
             pack(0, IN_THE_TEXT, end.0, n.value as usize)
         }
         Reading::Refused { number, at } => pack(number, IN_THE_TEXT, at.0, 0),
+    }
+}
+
+#[no_mangle]
+pub extern "C" fn nos_check_table(table: &[u8]) -> u64
+    ensures { λ r. ⌜ r ≡ packedCheck (checked (now (table .entry))) ⌝ }
+{
+    let answer = variables::check_table(table);
+    match answer {
+        Checked::Good(count) => pack(0, IN_THE_TABLE, 0, count),
+        Checked::Refused { number, at } => pack(number, IN_THE_TABLE, at.0, 0),
+    }
+}
+
+#[no_mangle]
+pub extern "C" fn nos_look_up(table: &[u8], name: &[u8]) -> u64
+    ensures { λ r. ⌜ r ≡ packedFound (lookedUp (now (table .entry)) (now (name .entry))) ⌝ }
+{
+    let answer = variables::look_up(table, name);
+    match answer {
+        Found::At(v) => {
+            let at = v.at;
+            pack(0, IN_THE_TABLE, at.0, v.kind as usize)
+        }
+        Found::Nothing => pack(UNKNOWN_NAME, IN_THE_TABLE, 0, 0),
+        Found::Unsound { number, at } => pack(number, IN_THE_TABLE, at.0, 0),
     }
 }

@@ -17,11 +17,12 @@ use Rattle.numbers.specs.Calls.{hex, binary, decimal, described, answerI
 use Rattle.numbers.specs.declared.Converted.{Converted}
 use Rattle.numbers.specs.declared.calls.Described.{Described}
 use Rattle.numbers.specs.declared.calls.Described.the-variants.{Unknown, Known}
+use Rattle.numbers.specs.declared.forms.Base.the-variants.{Ten}
 use Rattle.numbers.specs.declared.forms.Width.{Width}
 use Rattle.numbers.specs.declared.forms.Width.the-variants.{Nibble, Byte, TwoBytes, ThreeBytes, Word}
 use Rattle.numbers.specs.declared.forms.Form.{Form}
 use Rattle.numbers.proofs.Families.{Family, unknown, in-hex, in-binary, in-decimal, family}
-use Rattle.numbers.proofs.Laws.{count-small, string-length}
+use Rattle.numbers.proofs.Laws.{count-small, enough-least, string-length}
 
 pub bits-range : (w : Width) → (4 ≤ bits w) × (bits w ≤ 32)
 bits-range Nibble = omega arith
@@ -65,6 +66,19 @@ string-short form value small =
       string-length form value,
       one-long (negative form value) 45,
       spread-short (form .spaced) (count form n) (count-small form n (magnitude-word form value) small),
+    )
+
+-- a decimal string without spaces: a minus and ten digits at the most
+pub decimal-short : (signed terminated : Bool) (w : Width) (value : ℕ)
+    → length (string (record { base = Ten; fixed = 0; width = w; signed = signed; spaced = false; terminated = terminated }) value) ≤ 11
+decimal-short signed terminated w value =
+    let form : Form = record { base = Ten; fixed = 0; width = w; signed = signed; spaced = false; terminated = terminated } in
+    let n = magnitude form value in
+    omega (
+      arith,
+      string-length form value,
+      one-long (negative form value) 45,
+      enough-least 10 n n 1 10 (omega arith) (omega (arith, magnitude-word form value)) (omega arith),
     )
 
 -- an answer whose place and need are small

@@ -8,7 +8,11 @@ use Rattle.numbers.proofs.convert.Reads as convert
 use Rattle.numbers.specs.declared.Converted.{Converted}
 use Rattle.reader.proofs.read_unsigned.Reads as read-unsigned
 use Rattle.reader.specs.declared.Reading.{Reading}
-use Rattle.promises.specs.Allowed.{Converts, Reads}
+use Rattle.variables.proofs.check_table.Reads as check-table
+use Rattle.variables.proofs.look_up.Reads as look-up
+use Rattle.variables.specs.declared.Checked.{Checked}
+use Rattle.variables.specs.declared.Found.{Found}
+use Rattle.promises.specs.Allowed.{Converts, Reads, Checks, LooksUp}
 
 pub convert-allows : (κs : Lfts 1) (call value : ℕ) (buf after : RefT (List ℕ)) (r : Converted)
     → convert.Learnt κs (call, (value, (buf, tt))) r (call, (value, (after, tt))) → Converts call value (now buf) r (now after)
@@ -17,3 +21,11 @@ convert-allows κs call value buf after r learnt = record { answer = learnt .0; 
 pub read-unsigned-allows : (κs : Lfts 1) (text : RefT (List ℕ)) (whole : Bool) (limit : ℕ) (r : Reading)
     → read-unsigned.Learnt κs (text, (whole, (limit, tt))) r (text, (whole, (limit, tt))) → Reads (now text) whole limit r
 read-unsigned-allows κs text whole limit r learnt = record { answer = learnt }
+
+pub check-table-allows : (κs : Lfts 1) (table : RefT (List ℕ)) (r : Checked)
+    → check-table.Learnt κs (table, tt) r (table, tt) → Checks (now table) r
+check-table-allows κs table r learnt = record { answer = learnt }
+
+pub look-up-allows : (κs : Lfts 2) (table name : RefT (List ℕ)) (r : Found)
+    → look-up.Learnt κs (table, (name, tt)) r (table, (name, tt)) → LooksUp (now table) (now name) r
+look-up-allows κs table name r learnt = record { answer = learnt }

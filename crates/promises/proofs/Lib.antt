@@ -4,3 +4,4 @@ pub mod Outcomes
 pub mod WorkedExamples
 pub mod ConversionsKept
 pub mod ReadingsKept
+pub mod LookupsKept

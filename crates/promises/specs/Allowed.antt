@@ -8,6 +8,9 @@ use Rattle.numbers.specs.Calls.{answerOf, bufferOf}
 use Rattle.numbers.specs.declared.Converted.{Converted}
 use Rattle.reader.specs.Reading.{reading}
 use Rattle.reader.specs.declared.Reading.{Reading}
+use Rattle.variables.specs.Tables.{checked, lookedUp}
+use Rattle.variables.specs.declared.Checked.{Checked}
+use Rattle.variables.specs.declared.Found.{Found}
 
 -- `convert`
 pub record Converts (call value : ℕ) (buf : List ℕ) (r : Converted) (after : List ℕ) : Type 0 where
@@ -17,3 +20,11 @@ pub record Converts (call value : ℕ) (buf : List ℕ) (r : Converted) (after :
 -- `read_unsigned`
 pub record Reads (text : List ℕ) (whole : Bool) (limit : ℕ) (r : Reading) : Type 0 where
   pub answer : r ≡ reading text whole limit
+
+-- `check_table`
+pub record Checks (table : List ℕ) (r : Checked) : Type 0 where
+  pub answer : r ≡ checked table
+
+-- `look_up`
+pub record LooksUp (table name : List ℕ) (r : Found) : Type 0 where
+  pub answer : r ≡ lookedUp table name

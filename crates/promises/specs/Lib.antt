@@ -4,3 +4,4 @@ pub mod Texts
 pub mod Examples
 pub mod Conversions
 pub mod Readings
+pub mod Lookups

@@ -21,6 +21,12 @@ pub(crate) fn refusal(out: &mut [u8], number: u8) -> usize {
     put_number(out, no, number as usize)
 }
 
+// A refusal with nothing but its place: `no N PLACE`.
+pub(crate) fn refusal_at(out: &mut [u8], number: u8, place: usize) -> usize {
+    let why = refusal(out, number);
+    put_number(out, why, place)
+}
+
 pub(crate) fn put_word(out: &mut [u8], at: usize, word: &[u8]) -> usize {
     let mut end = at;
     let mut i = 0;

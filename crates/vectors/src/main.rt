@@ -15,6 +15,7 @@ fn turn(
     window: Window,
     input: &mut [u8],
     text: &mut [u8],
+    table: &mut [u8],
     lent: &mut [u8],
     out: &mut [u8],
 ) -> Window {
@@ -27,7 +28,7 @@ fn turn(
             rest
         }
         Line::Whole { start, end, rest } => {
-            let answer = cases::answer(slices::part(input, start, end), text, lent, out);
+            let answer = cases::answer(slices::part(input, start, end), text, table, lent, out);
             answers::write(out, answer);
             rest
         }
@@ -36,25 +37,32 @@ fn turn(
 
 // A proved loop has to end, and nothing says that the input does. So the loop counts its turns down, from a number that no
 // run uses up.
-fn answer_all(input: &mut [u8], text: &mut [u8], lent: &mut [u8], out: &mut [u8]) {
+fn answer_all(
+    input: &mut [u8],
+    text: &mut [u8],
+    table: &mut [u8],
+    lent: &mut [u8],
+    out: &mut [u8],
+) {
     let mut window = Window::new();
     let mut turns = u64::MAX;
     while turns > 0 {
         if window.is_over() {
             return;
         }
-        window = turn(window, input, text, lent, out);
+        window = turn(window, input, text, table, lent, out);
         turns -= 1;
     }
 }
 
 // Each buffer stands here once and is lent to all that runs, so that no line costs more than its own bytes. `input` holds
-// the longest line, which has two texts in hex; `text` and `lent` hold more than the longest text; `out` holds all of `lent`
+// the longest line, which has two texts in hex; `text`, `table` and `lent` hold more than the longest text; `out` holds all of `lent`
 // in hex.
 fn main() {
     let mut input = [0u8; 524288];
     let mut text = [0u8; 70000];
+    let mut table = [0u8; 70000];
     let mut lent = [0u8; 70000];
     let mut out = [0u8; 150000];
-    answer_all(&mut input, &mut text, &mut lent, &mut out);
+    answer_all(&mut input, &mut text, &mut table, &mut lent, &mut out);
 }

@@ -6,11 +6,11 @@ use Rattle.vectors.proofs.answer_all.Statement.{statement}
 use Rattle.vectors.proofs.answer_all.Tie as tie
 
 abbrev Inv-loop : tie.InvT-loop
-Inv-loop input₀ text₀ lent₀ out₀ window₀ turns₀ input text lent out window turns =
-    (length input ≡ length input₀) × (length text ≡ length text₀) × (length lent ≡ length lent₀) × (length out ≡ length out₀)
+Inv-loop input₀ text₀ table₀ lent₀ out₀ window₀ turns₀ input text table lent out window turns =
+    (length input ≡ length input₀) × (length text ≡ length text₀) × (length table ≡ length table₀) × (length lent ≡ length lent₀) × (length out ≡ length out₀)
 
 abbrev μ-loop : tie.MeasureT-loop
-μ-loop input₀ text₀ lent₀ out₀ window₀ turns₀ input text lent out window turns = turns
+μ-loop input₀ text₀ table₀ lent₀ out₀ window₀ turns₀ input text table lent out window turns = turns
 
 new-requires : tie.Need-new-requires Inv-loop μ-loop
 new-requires c κs = search needs
@@ -33,6 +33,9 @@ same-length-3 c = search needs
 same-length-4 : tie.Need-same-length-4 Inv-loop μ-loop
 same-length-4 c = search needs
 
+same-length-5 : tie.Need-same-length-5 Inv-loop μ-loop
+same-length-5 c = search needs
+
 returns : tie.Need-returns Inv-loop μ-loop
 returns c = search needs
 
@@ -48,9 +51,6 @@ loop-less c = search needs
 loop-again : tie.Need-loop-again Inv-loop μ-loop
 loop-again c = search needs
 
-same-length-5 : tie.Need-same-length-5 Inv-loop μ-loop
-same-length-5 c = search needs
-
 same-length-6 : tie.Need-same-length-6 Inv-loop μ-loop
 same-length-6 c = search needs
 
@@ -59,6 +59,12 @@ same-length-7 c = search needs
 
 same-length-8 : tie.Need-same-length-8 Inv-loop μ-loop
 same-length-8 c = search needs
+
+same-length-9 : tie.Need-same-length-9 Inv-loop μ-loop
+same-length-9 c = search needs
+
+same-length-10 : tie.Need-same-length-10 Inv-loop μ-loop
+same-length-10 c = search needs
 
 returns-2 : tie.Need-returns-2 Inv-loop μ-loop
 returns-2 c = search needs
@@ -76,13 +82,15 @@ answer-all-spec =
     same-length-2
     same-length-3
     same-length-4
+    same-length-5
     returns
     turn-requires
     sub-turns
     loop-less
     loop-again
-    same-length-5
     same-length-6
     same-length-7
     same-length-8
+    same-length-9
+    same-length-10
     returns-2)

@@ -25,7 +25,7 @@ pub(crate) fn answer(line: &[u8], rest: Cursor, text: &mut [u8], out: &mut [u8])
     );
     match reading {
         Reading::Value(number) => value(number.value as usize, number.end.0, out),
-        Reading::Refused { number, at } => refused(number, at.0, out),
+        Reading::Refused { number, at } => answers::refusal_at(out, number, at.0),
     }
 }
 
@@ -34,10 +34,4 @@ fn value(number: usize, place: usize, out: &mut [u8]) -> usize {
     let val = answers::put_word(out, 0, b"val");
     let read = answers::put_number(out, val, number);
     answers::put_number(out, read, place)
-}
-
-// `no N PLACE`
-fn refused(number: u8, place: usize, out: &mut [u8]) -> usize {
-    let why = answers::refusal(out, number);
-    answers::put_number(out, why, place)
 }

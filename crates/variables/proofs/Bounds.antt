@@ -1,0 +1,74 @@
+-- Every answer has a number that is listed, a place up to 65,535, up to 256 records, and a kind up to 2.
+use mathlib.Core.Bool.{false}
+use mathlib.Core.List.{List, [], _∷_, List·Memᴰ, Memᴰ·append-left, List·Memᴰ·head as head, List·Memᴰ·tail as tail}
+use mathlib.Core.Path.{_≡_, refl, subst}
+use Prim.Native.Nat.{ℕ, zero, suc, _+_, _≤_}
+use native.Mathlib.Omega.{arith}
+use borrow.Author.Tests.{leb-false, ltb-false}
+use lib.Dec.{ltb, leb}
+use lib.ListN.{length}
+use Rattle.paper.specs.Refusals.{unknown-name, bad-table, longest}
+use Rattle.paper.proofs.Choice.{either}
+use Rattle.variables.specs.Records.{nextPlace, Meaning, nothing, means}
+use Rattle.variables.specs.Tables.{most, sound, refused, scanned, checked, recordsOf, meaningOf, foundAs, foundIn, lookedUp, numberOf, placeOf, countOf, foundNumber, foundPlace, foundKind, checkNumbers, lookUpNumbers}
+use Rattle.variables.specs.declared.Checked.{Checked}
+use Rattle.variables.specs.declared.Checked.the-variants.{Good, Refused}
+use Rattle.variables.specs.declared.Found.{Found}
+use Rattle.variables.proofs.Good.{Laid, laid, wholes}
+use Rattle.variables.proofs.Unique.{found}
+
+pub record Bounded (r : Checked) : Type 0 where
+  pub number : numberOf r ≤ 18
+  pub place : placeOf r ≤ longest
+  pub count : countOf r ≤ most
+  pub listed : List·Memᴰ (numberOf r) checkNumbers
+
+module _ (table : List ℕ) (short : length table ≤ longest) where
+  good : (count : ℕ) → count ≤ most → Bounded (Good count)
+  good count c = record { number = omega arith; place = omega arith; count = c; listed = head refl }
+
+  bad : (place : ℕ) → leb (length table) place ≡ false → Bounded (refused bad-table place)
+  bad place e =
+      let h = leb-false (length table) place e in
+      record { number = omega arith; place = omega arith; count = omega arith; listed = tail (tail (head refl)) }
+
+  scanned-bounded : (left count place : ℕ) → count + left ≤ most → Bounded (scanned left count table place)
+  unfolding scanned
+  scanned-bounded zero count place c = either Bounded (leb (length table) place) (λ _. good count (omega arith)) (bad place)
+  scanned-bounded (suc left) count place c =
+      either Bounded (leb (length table) place) (λ _. good count (omega arith))
+      (λ e. either Bounded (sound table place) (λ _. scanned-bounded left (suc count) (nextPlace table place) (omega arith)) (λ _. bad place e))
+
+pub checked-bounded : (table : List ℕ) → Bounded (checked table)
+unfolding checked
+checked-bounded table =
+    either Bounded (ltb longest (length table))
+    (λ _. record { number = omega arith; place = omega arith; count = omega arith; listed = tail (head refl) })
+    (λ e. scanned-bounded table (ltb-false longest (length table) e) most 0 0 (omega arith))
+
+pub record FoundBounded (r : Found) : Type 0 where
+  pub number : foundNumber r ≤ 18
+  pub place : foundPlace r ≤ longest
+  pub kind : foundKind r ≤ 2
+  pub listed : List·Memᴰ (foundNumber r) lookUpNumbers
+
+-- a look-up in a table that is known to be good
+pub found-bounded : {n : ℕ} (table name : List ℕ) → Laid table n → FoundBounded (foundAs table (meaningOf table name))
+found-bounded table name l = go (meaningOf table name) refl where
+  go : (m : Meaning) → meaningOf table name ≡ m → FoundBounded (foundAs table m)
+  go nothing q =
+      record { number = omega arith; place = omega arith; kind = omega arith; listed = tail (tail (tail (head refl))) }
+  go (means e) q =
+      let w = wholes l (found (recordsOf table) name q .0) in
+      let s = l .short in
+      record { number = omega arith; place = omega arith; kind = w .kind; listed = head refl }
+
+-- a look-up in any bytes
+pub looked-up-bounded : (table name : List ℕ) → FoundBounded (lookedUp table name)
+unfolding lookedUp
+looked-up-bounded table name = go (checked table) refl where
+  go : (k : Checked) → checked table ≡ k → FoundBounded (foundIn table name k)
+  go (Good count) q = found-bounded table name (laid table q)
+  go (Refused number at) q =
+      let b = subst Bounded q (checked-bounded table) in
+      record { number = b .number; place = b .place; kind = omega arith; listed = Memᴰ·append-left (unknown-name ∷ []) (b .listed) }

@@ -1,0 +1,7 @@
+-- Equal names, one step of a walk, what holds of a good table, and the bounds of every answer.
+pub mod Equal
+pub mod Walks
+pub mod Chain
+pub mod Good
+pub mod Unique
+pub mod Bounds

@@ -1,0 +1,113 @@
+-- What names mean in a good table: a record's own name means that record, equal names are one record's, and a name that no record
+-- can have means nothing.
+use mathlib.Core.Bool.{Bool, true, false, and-eq-true-iff, false≢true}
+use mathlib.Core.List.{List, [], _∷_, _++_, List·Memᴰ, List·Memᴰ·head as head, List·Memᴰ·tail as tail}
+use mathlib.Core.Path.{_≡_, refl, ap, sym, _∙_}
+use Prim.Native.Nat.{ℕ, _≤_, _<_}
+use native.Mathlib.Omega.{arith}
+use lib.ListN.{length, length-append}
+use Rattle.variables.specs.Records.{nextPlace, nameAt, shaped, sameName, Entry, entryAt, Meaning, nothing, means, meaning, isNothing}
+use Rattle.variables.specs.Tables.{most, isNew, sound, recordsOf, meaningOf}
+use Rattle.variables.proofs.Equal.{reflexive, alike, other-length}
+use Rattle.variables.proofs.Chain.{Chain, end, next, exact, place-of, starts, later, split}
+use Rattle.variables.proofs.Good.{Laid, wholes}
+
+not-nothing : {e : Entry} → means e ≡ nothing → ⊥
+not-nothing e = let z : _≡_ {A = ℕ} 0 1 = cc in omega arith
+
+unmeans : {e f : Entry} → means e ≡ means f → e ≡ f
+unmeans e = cc
+
+-- a name that means nothing among the first records means what it means among the others
+behind : (es fs : List Entry) (name : List ℕ) → meaning es name ≡ nothing → meaning (es ++ fs) name ≡ meaning fs name
+unfolding meaning
+behind [] fs name e = refl
+behind (x ∷ es) fs name e = go (sameName (x .name) name) refl (behind es fs name) where
+  go :
+      (b : Bool) → sameName (x .name) name ≡ b → (meaning es name ≡ nothing → meaning (es ++ fs) name ≡ meaning fs name) →
+      meaning (x ∷ (es ++ fs)) name ≡ meaning fs name
+  go true q further = absurd (not-nothing (rw q at e))
+  go false q further = rw q (further (rw q at e))
+
+-- what a name means is one of the records, and has an equal name
+pub found :
+    (es : List Entry) (name : List ℕ) {e : Entry} → meaning es name ≡ means e →
+    List·Memᴰ e es × (sameName (e .name) name ≡ true)
+unfolding meaning
+found [] name h = absurd (not-nothing (sym h))
+found (x ∷ es) name {e} h = go (sameName (x .name) name) refl (found es name) where
+  go :
+      (b : Bool) → sameName (x .name) name ≡ b →
+      (meaning es name ≡ means e → List·Memᴰ e es × (sameName (e .name) name ≡ true)) →
+      List·Memᴰ e (x ∷ es) × (sameName (e .name) name ≡ true)
+  go true q further =
+      let same : x ≡ e = unmeans (rw q at h) in
+      (head (sym same), rw (← same) q)
+  go false q further = let r = further (rw q at h) in (tail (r .0), r .1)
+
+pub same-meaning : (es : List Entry) (a b : List ℕ) → sameName a b ≡ true → meaning es a ≡ meaning es b
+unfolding meaning
+same-meaning [] a b e = refl
+same-meaning (x ∷ es) a b e = rw (alike (x .name) a b e, same-meaning es a b e)
+
+-- a name that no record has means nothing
+unmet :
+    (es : List Entry) (name : List ℕ) → ((e : Entry) → List·Memᴰ e es → sameName (e .name) name ≡ false) →
+    meaning es name ≡ nothing
+unfolding meaning
+unmet [] name n = refl
+unmet (x ∷ es) name n = rw (n x (head refl)) (unmet es name (λ e m. n e (tail m)))
+
+is-nothing : (m : Meaning) → isNothing m ≡ true → m ≡ nothing
+is-nothing nothing e = refl
+is-nothing (means x) e = absurd (false≢true e)
+
+-- each name is unequal to those behind it
+pub data Apart : List Entry → Type 0 where
+  none : Apart []
+  one :
+      {e : Entry} {es : List Entry} → ((f : Entry) → List·Memᴰ f es → sameName (e .name) (f .name) ≡ false) → Apart es →
+      Apart (e ∷ es)
+
+module _ {n : ℕ} {table : List ℕ} (l : Laid table n) where
+  -- a record's own name means that record
+  pub own : {e : Entry} → List·Memᴰ e (recordsOf table) → meaningOf table (e .name) ≡ means e
+  unfolding sound entryAt meaning
+  own {e} m =
+      let s = split (l .chain) m in
+      let sum = length-append (s .front) (e ∷ s .back) in
+      let few : length (s .front) ≤ most = omega (arith, l .counted, l .few, ap length (s .whole), sum) in
+      let named : nameAt table (e .place) ≡ e .name = sym (ap (λ x. x .name) (starts (l .chain) m)) in
+      let new : isNew table (e .place) ≡ true = and-eq-true-iff (shaped table (e .place)) _ .0 (l .sounds e m) .1 in
+      let none : meaning (s .front) (e .name) ≡ nothing = rw (← exact most (s .up-to) few, ← named) (is-nothing _ new) in
+      rw (s .whole, behind (s .front) (e ∷ s .back) (e .name) none, reflexive (e .name))
+
+  -- two records with equal names are one
+  pub unique :
+      {e f : Entry} → List·Memᴰ e (recordsOf table) → List·Memᴰ f (recordsOf table) → sameName (e .name) (f .name) ≡ true → e ≡ f
+  unique {e} {f} a b same = unmeans (sym (own a) ∙ same-meaning (recordsOf table) (e .name) (f .name) same ∙ own b)
+
+  -- a name of no byte, or of more than 32
+  pub out-of-length : (name : List ℕ) → (1 ≤ length name → 32 < length name) → meaningOf table name ≡ nothing
+  out-of-length name h = unmet (recordsOf table) name differs where
+    differs : (e : Entry) → List·Memᴰ e (recordsOf table) → sameName (e .name) name ≡ false
+    differs e m =
+        let w = wholes l m in
+        other-length (e .name) name (λ q. omega (arith, q, w .name-to, h (omega (arith, q, w .name-from))))
+
+  -- the names are pairwise unequal
+  pub apart : Apart (recordsOf table)
+  apart = go (l .chain) (λ e m. m) where
+    differ :
+        (place : ℕ) {es : List Entry} {f : Entry} → Chain table (length table) (nextPlace table place) es → List·Memᴰ f es →
+        List·Memᴰ (entryAt table place) (recordsOf table) → List·Memᴰ f (recordsOf table) →
+        (b : Bool) → sameName (entryAt table place .name) (f .name) ≡ b → b ≡ false
+    differ place r m a b true q = absurd (omega (arith, later r m, ap (λ x. x .place) (unique a b q), place-of table place))
+    differ place r m a b false q = refl
+
+    go :
+        {place : ℕ} {es : List Entry} → Chain table (length table) place es →
+        ((e : Entry) → List·Memᴰ e es → List·Memᴰ e (recordsOf table)) → Apart es
+    go (end q) among = none
+    go (next {place = place} r) among =
+        one (λ f m. differ place r m (among _ (head refl)) (among f (tail m)) _ refl) (go r (λ e m. among e (tail m)))

@@ -1,0 +1,3 @@
+-- Variables: the records of a table, when it is good, and what a name means in it.
+pub mod Records
+pub mod Tables

@@ -1,0 +1,96 @@
+-- A record of a table, by the place where its mark starts; equal names; the records from a place on.
+use mathlib.Core.Bool.{Bool, true, false, cond, not, _&&_, _||_}
+use mathlib.Core.List.{List, [], _∷_, map}
+use Prim.Native.Nat.{ℕ, zero, suc, _+_}
+use lib.Dec.{ltb, leb, eqb}
+use lib.ListN.{length, getD, take, drop}
+
+-- 86, 82, kind, name length, value length, name, value
+abbrev pub kindAt : List ℕ → ℕ → ℕ
+kindAt table place = getD table (place + 2) 0
+
+abbrev pub nameLength : List ℕ → ℕ → ℕ
+nameLength table place = getD table (place + 3) 0
+
+abbrev pub valueLength : List ℕ → ℕ → ℕ
+valueLength table place = getD table (place + 4) 0
+
+abbrev pub valueStart : List ℕ → ℕ → ℕ
+valueStart table place = place + 5 + nameLength table place
+
+abbrev pub nextPlace : List ℕ → ℕ → ℕ
+nextPlace table place = valueStart table place + valueLength table place
+
+unfoldable pub nameAt : List ℕ → ℕ → List ℕ
+nameAt table place = take (nameLength table place) (drop (place + 5) table)
+
+unfoldable pub valueAt : List ℕ → ℕ → List ℕ
+valueAt table place = take (valueLength table place) (drop (valueStart table place) table)
+
+-- a byte that a name may have: 33 to 126, and not 34, 60 or 62
+unfoldable pub nameByte : ℕ → Bool
+nameByte c = leb 33 c && (leb c 126 && (not (eqb c 34) && (not (eqb c 60) && not (eqb c 62))))
+
+abbrev pub allNameBytes : List ℕ → Bool
+allNameBytes [] = true
+allNameBytes (c ∷ cs) = nameByte c && allNameBytes cs
+
+-- the mark, kinds 0 to 2, a name of 1 to 32 bytes, an integer of 4 bytes, all of it inside the slice, and each name byte allowed
+unfoldable pub headed : List ℕ → ℕ → Bool
+headed table place = eqb (getD table place 0) 86 && (eqb (getD table (place + 1) 0) 82 && leb (kindAt table place) 2)
+
+-- an integer has a value of 4 bytes
+unfoldable pub fitting : ℕ → ℕ → Bool
+fitting kind size = not (eqb kind 1) || eqb size 4
+
+unfoldable pub sized : List ℕ → ℕ → Bool
+sized table place =
+    leb 1 (nameLength table place)
+    && (leb (nameLength table place) 32
+    && (fitting (kindAt table place) (valueLength table place) && leb (nextPlace table place) (length table)))
+
+abbrev pub shaped : List ℕ → ℕ → Bool
+shaped table place = headed table place && (sized table place && allNameBytes (nameAt table place))
+
+-- a letter A to Z as its small one
+unfoldable pub small : ℕ → ℕ
+small c = cond (leb 65 c && leb c 90) (c + 32) c
+
+abbrev pub sameBytes : List ℕ → List ℕ → Bool
+sameBytes [] [] = true
+sameBytes [] (y ∷ ys) = false
+sameBytes (x ∷ xs) [] = false
+sameBytes (x ∷ xs) (y ∷ ys) = eqb x y && sameBytes xs ys
+
+-- names are equal when they differ only in the case of A to Z
+unfoldable pub sameName : List ℕ → List ℕ → Bool
+sameName a b = sameBytes (map small a) (map small b)
+
+pub record Entry : Type 0 where
+  pub place : ℕ
+  pub kind : ℕ
+  pub name : List ℕ
+  pub value : List ℕ
+
+unfoldable pub entryAt : List ℕ → ℕ → Entry
+entryAt table place = record { place = place; kind = kindAt table place; name = nameAt table place; value = valueAt table place }
+
+-- the records from a place on that start before `stop`, at most so many
+unfoldable pub entries : ℕ → List ℕ → ℕ → ℕ → List Entry
+entries zero table stop place = []
+entries (suc left) table stop place =
+    let rest = entries left table stop (nextPlace table place) in
+    cond (ltb place stop) (entryAt table place ∷ rest) []
+
+-- what a name means among records: nothing, or the first record that has it
+pub data Meaning : Type 0 where
+  nothing : Meaning
+  means : Entry → Meaning
+
+abbrev pub isNothing : Meaning → Bool
+isNothing nothing = true
+isNothing (means e) = false
+
+unfoldable pub meaning : List Entry → List ℕ → Meaning
+meaning [] name = nothing
+meaning (e ∷ es) name = let rest = meaning es name in cond (sameName (e .name) name) (means e) rest
