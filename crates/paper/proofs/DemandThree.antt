@@ -29,6 +29,38 @@ fault-number BadExpression = omega arith
 fault-number ZeroDivisor = omega arith
 fault-number NotAnInteger = omega arith
 
+-- a run that stopped has the number of a fault or of Allowance spent, never that of an accepted answer or of No room
+record Stops (r : Run) : Type 0 where
+  number : (n place : ℕ) → r ≡ stopped n place → 1 < n
+
+finished-stops : (end left : ℕ) → Stops (finished end left)
+finished-stops end left = record { number = λ n place e. absurd (clash n place e) }
+  where
+    clash : (n place : ℕ) → finished end left ≡ stopped n place → ⊥
+    clash n place e = let z : _≡_ {A = ℕ} 0 1 = cc in omega arith
+
+stopped-stops : (number place : ℕ) → 1 < number → Stops (stopped number place)
+stopped-stops number place over = record { number = λ n q e. same n q e }
+  where
+    same : (n q : ℕ) → stopped number place ≡ stopped n q → 1 < n
+    same n q e = let s : number ≡ n = cc in omega arith
+
+behind-stops : (r : Run) (place : ℕ) (rest : ℕ → Run) → Stops r → ((left : ℕ) → Stops (rest left)) → Stops (behind r place rest)
+behind-stops (finished end left) place rest s f = f left
+behind-stops (stopped number inner) place rest s f = stopped-stops number place (s .number number inner refl)
+
+run-stops : (t : Trace) (left : ℕ) → Stops (run t left)
+run-stops (ended end) left = finished-stops end left
+run-stops (refused fault place) left = stopped-stops (numberOf fault) place (fault-number fault .0)
+run-stops (gives byte rest) left = run-stops rest left
+run-stops (asks name rest) left = run-stops rest left
+run-stops (spends place rest) zero = stopped-stops allowance-spent place (omega arith)
+run-stops (spends place rest) (suc left) = run-stops rest left
+run-stops (enters reference value rest) left = behind-stops (run value left) (reference .place) (run rest) (run-stops value left) (run-stops rest)
+
+pub stopped-number : (t : Trace) (left number place : ℕ) → run t left ≡ stopped number place → 1 < number
+stopped-number t left number place e = run-stops t left .number number place e
+
 -- the run that reaches where the reading leads, with so many look-ups left
 abbrev with-left : ℕ → Ending → Run
 with-left left (done end) = finished end left

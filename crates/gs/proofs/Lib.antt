@@ -1,0 +1,7 @@
+-- The laws that several proofs cite, where each symbol stands, and the pieces of a reading.
+pub mod Laws
+pub mod Places
+pub mod Pieces
+pub mod Walk
+pub mod Follows
+pub mod Fills

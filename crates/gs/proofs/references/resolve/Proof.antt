@@ -1,0 +1,69 @@
+-- `resolve` meets its contract: a value becomes a byte, and every other answer goes the name path.
+use mathlib.Core.Path.{_≡_, refl, ap, sym, _∙_}
+use mathlib.Core.Bool.{true, cond}
+use mathlib.Core.List.{List}
+use Prim.Native.Nat.{ℕ, _%_}
+use lib.Dec.{eqb}
+use borrow.Author.Needs.{needs}
+use Rattle.paper.specs.Refusals.{too-big}
+use Rattle.reader.specs.Reading.{reading, numberOf}
+use Rattle.reader.specs.declared.Number.{Number as Valued}
+use Rattle.reader.specs.declared.Reading.{Reading}
+use Rattle.reader.specs.declared.Reading.the-variants.{Value, Refused}
+use Rattle.variables.specs.Tables.{meaningOf}
+use Rattle.gs.specs.Steps.{variableAs, referredAs, referredIn}
+use Rattle.gs.specs.declared.expansion.Referred.{Referred}
+use Rattle.gs.specs.declared.expansion.Referred.the-variants.{Number, TooBig}
+use Rattle.gs.proofs.references.resolve.Statement.{statement}
+use Rattle.gs.proofs.references.resolve.Tie as tie
+
+read-unsigned-requires : tie.Need-read-unsigned-requires
+read-unsigned-requires c κs = search needs
+
+enum-known-answer : tie.Need-enum-known-answer
+enum-known-answer c = search needs
+
+enum-told : tie.Need-enum-told
+enum-told c = search needs
+
+refusal-of-requires : tie.Need-refusal-of-requires
+refusal-of-requires c κs = search needs
+
+as-name-requires : tie.Need-as-name-requires
+as-name-requires c κs = search needs
+
+named : (name table : List ℕ) (answer : Reading) (x : ℕ) (y : _) (number : ℕ) (r : Referred)
+    → answer ≡ reading name true 4294967295 → answer ≡ Refused x y → number ≡ numberOf answer
+    → r ≡ cond (eqb number too-big) TooBig (variableAs table (meaningOf table name)) → r ≡ referredIn table name
+unfolding referredIn
+named name table answer x y number r a e n h =
+    let named = variableAs table (meaningOf table name) in
+    h ∙ ap (λ k. cond (eqb k too-big) TooBig named) (n ∙ ap numberOf e) ∙ ap (λ r. referredAs r named) (sym e ∙ a)
+
+returns : tie.Need-returns
+returns c =
+    named _ _ _ _ _ _ _ (c .before .before .before .before .read-unsigned .ensures) (c .before .before .enum-told .given .1) (c .before .refusal-of .ensures) (c .as-name .ensures)
+
+cast-t7 : tie.Need-cast-t7
+cast-t7 c = search needs
+
+valued : (name table : List ℕ) (answer : Reading) (n : Valued) → answer ≡ reading name true 4294967295 → answer ≡ Value n
+    → Number (n .value % 256) ≡ referredIn table name
+unfolding referredIn
+valued name table answer n a v = ap (λ r. referredAs r (variableAs table (meaningOf table name))) (sym v ∙ a)
+
+returns-2 : tie.Need-returns-2
+returns-2 c = valued _ _ _ _ (c .before .before .before .before .read-unsigned .ensures) (c .before .before .answer .given .1)
+
+pub resolve-spec : {M : Type 1} → statement M
+resolve-spec =
+    tie.close
+    (tie.spec
+    read-unsigned-requires
+    enum-known-answer
+    enum-told
+    refusal-of-requires
+    as-name-requires
+    returns
+    cast-t7
+    returns-2)

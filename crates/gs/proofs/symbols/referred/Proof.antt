@@ -1,0 +1,85 @@
+-- `referred` meets its contract: a name of one byte at least, and ">" behind it.
+use mathlib.Core.List.{List}
+use mathlib.Core.Path.{_≡_, ap}
+use Prim.Native.Nat.{ℕ, _+_, _<_}
+use native.Mathlib.Omega.{arith}
+use borrow.Author.Needs.{needs}
+use borrow.Author.Tests.{eq-eqb, ne-eqb, lt-ltb, le-ltb}
+use lib.ListN.{drop, getD}
+use Rattle.reader.proofs.Laws.{inside}
+use Rattle.gs.specs.Symbols.{nameRun}
+use Rattle.gs.specs.Symbols.{referred}
+use Rattle.gs.specs.declared.symbols.Symbol.the-variants.{Reference}
+use Rattle.gs.proofs.symbols.referred.Statement.{statement}
+use Rattle.gs.proofs.symbols.referred.Tie as tie
+
+module _ (c : tie.After-skip-name) where
+  abbrev text : List ℕ
+  text = c .before .before .args .text .now
+
+  -- how long the name is
+  abbrev run : ℕ
+  run = nameRun (drop (c .before .before .args .at + 1) text)
+
+add-start : tie.Need-add-start
+add-start c = search needs
+
+skip-name-requires : tie.Need-skip-name-requires
+skip-name-requires c κs = search needs
+
+bad-requires : tie.Need-bad-requires
+bad-requires c κs = search needs
+
+returns : tie.Need-returns
+unfolding referred
+returns c = rw (c .bad .ensures, le-ltb 0 (run (c .before .before)) (omega arith))
+
+byte-requires : tie.Need-byte-requires
+byte-requires c κs = search needs
+
+add-t8 : tie.Need-add-t8
+add-t8 c =
+    let name = c .before .before .before in
+    omega (arith, inside (text name) (name .skip-name .result) (omega arith))
+
+returns-2 : tie.Need-returns-2
+unfolding referred
+returns-2 c =
+    let name = c .before .before .before in
+    let next : name .skip-name .result + 1 ≡ name .before .before .args .at + 2 + run name = omega arith in
+    rw (
+      next,
+      lt-ltb 0 (run name) (omega arith),
+      ← name .skip-name .ensures,
+      ← c .before .byte .ensures,
+      eq-eqb _ _ (c .if2 .taken),
+    )
+
+bad-requires-2 : tie.Need-bad-requires-2
+bad-requires-2 c κs = search needs
+
+returns-3 : tie.Need-returns-3
+unfolding referred
+returns-3 c =
+    let name = c .before .before .before .before in
+    rw (
+      c .bad2 .ensures,
+      lt-ltb 0 (run name) (omega arith),
+      ← name .skip-name .ensures,
+      ← c .before .before .byte .ensures,
+      ne-eqb _ _ (c .before .if2 .left),
+    )
+
+pub referred-spec : {M : Type 1} → statement M
+referred-spec =
+    tie.close
+    (tie.spec
+    add-start
+    skip-name-requires
+    bad-requires
+    returns
+    byte-requires
+    add-t8
+    returns-2
+    bad-requires-2
+    returns-3)

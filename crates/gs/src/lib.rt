@@ -1,0 +1,119 @@
+// GS strings: a text with quotes, codes and references, translated whole or refused.
+ghost use mathlib.Core.Path.{_≡_};
+ghost use Prim.Native.Nat.{_≤_};
+ghost use lib.ListN.{length};
+ghost use Rattle.paper.specs.Traces.{bytes, answer};
+ghost use Rattle.gs.specs.Translations.{readingOf, allowed, refusedAt, translatedBy, leftBy, translated, outAfter};
+
+mod bytes;
+mod codes;
+pub mod expansion;
+pub mod flags;
+mod output;
+mod references;
+pub mod symbols;
+
+use expansion::Expanded;
+use flags::Flags;
+use paper::LONGEST;
+use paper::NO_ROOM;
+use paper::OVER_LENGTH;
+use paper::RecordPlace;
+use paper::TextPlace;
+use variables::Checked;
+
+// What a translation answers.
+pub enum Translated {
+    // The place of the text's end, the bytes written, and the room left.
+    Written {
+        end: TextPlace,
+        need: usize,
+        free: usize,
+    },
+    Refused {
+        number: u8,
+        at: TextPlace,
+        need: usize,
+        free: usize,
+    },
+    // The table is not good.
+    BadTable {
+        number: u8,
+        at: RecordPlace,
+        free: usize,
+    },
+}
+
+// How deep macros may go: the outer text has depth 0, and none is named in a text of depth 16.
+const LEVELS: u8 = 16;
+
+fn refused(number: u8, place: usize, need: usize, free: usize) -> Translated
+    ensures { λ r. ⌜ r ≡ refusedAt number place need free ⌝ }
+{
+    Translated::Refused {
+        number,
+        at: TextPlace(place),
+        need,
+        free,
+    }
+}
+
+// The look-ups that are allowed: more than 1,024 counts as 1,024.
+fn cap(allowance: u32) -> u32
+    ensures { λ r. ⌜ (r ≡ allowed allowance) × (r ≤ 1024) ⌝ }
+{
+    if allowance < 1024 {
+        return allowance;
+    }
+    1024
+}
+
+// A text over a good table. The first pass is lent nothing and measures; only when all of it has room does the second write.
+fn fill(text: &[u8], table: &[u8], flags: Flags, left: u32, out: &mut [u8]) -> Translated
+    requires { ⌜ (length (now text) ≤ 65535) × (left ≤ 1024) ⌝ }
+    ensures answer { λ r. ⌜ r ≡ translatedBy (answer (readingOf (now (text .entry)) (now (table .entry)) (flags .0)) left (length (now (out .entry)))) ⌝ }
+    ensures buffer { λ r. ⌜ now (out .exit) ≡ leftBy r (bytes (readingOf (now (text .entry)) (now (table .entry)) (flags .0))) (now (out .entry)) ⌝ }
+{
+    let room = out.len();
+    let measured = expansion::expand(text, table, flags, LEVELS, left, 0, &mut out[0..0]);
+    match measured {
+        Expanded::Halted { number, place } => refused(number, place, 0, room),
+        Expanded::Ended { end, at, left: _ } => {
+            if room < at {
+                return refused(NO_ROOM, 0, at, room);
+            }
+            expansion::expand(text, table, flags, LEVELS, left, 0, out);
+            Translated::Written {
+                end: TextPlace(end),
+                need: at,
+                free: room - at,
+            }
+        }
+    }
+}
+
+// A text with the references that a table's variables resolve, at the start of `out`: whole, or not at all.
+pub fn translate(
+    text: &[u8],
+    table: &[u8],
+    flags: Flags,
+    allowance: u32,
+    out: &mut [u8],
+) -> Translated
+    ensures answer { λ r. ⌜ r ≡ translated (now (text .entry)) (now (table .entry)) (flags .0) allowance (length (now (out .entry))) ⌝ }
+    ensures buffer { λ r. ⌜ now (out .exit) ≡ outAfter (now (text .entry)) (now (table .entry)) (flags .0) allowance (now (out .entry)) ⌝ }
+{
+    let room = out.len();
+    if LONGEST < text.len() {
+        return refused(OVER_LENGTH, 0, 0, room);
+    }
+    let checked = variables::check_table(table);
+    match checked {
+        Checked::Refused { number, at } => Translated::BadTable {
+            number,
+            at,
+            free: room,
+        },
+        Checked::Good(_) => fill(text, table, flags, cap(allowance), out),
+    }
+}
