@@ -8,6 +8,9 @@ use Rattle.reader.specs.declared.Reading.{Reading}
 use Rattle.variables.specs.Tables.{numberOf, placeOf, countOf, foundNumber, foundPlace, foundKind}
 use Rattle.variables.specs.declared.Checked.{Checked}
 use Rattle.variables.specs.declared.Found.{Found}
+use Rattle.gs.specs.Translations as Translations
+use Rattle.gs.specs.declared.Translated.{Translated}
+use Rattle.gs.specs.declared.Translated.the-variants.{Written, Refused, BadTable}
 
 abbrev pub packed : ℕ → ℕ → ℕ → ℕ → ℕ
 packed number counted place high = number + 256 * counted + 65536 * place + 4294967296 * high
@@ -26,3 +29,14 @@ packedCheck r = packed (numberOf r) 1 (placeOf r) (countOf r)
 
 abbrev pub packedFound : Found → ℕ
 packedFound r = packed (foundNumber r) 1 (foundPlace r) (foundKind r)
+
+-- what the place of a translation is counted in
+abbrev pub countedIn : Translated → ℕ
+countedIn (Written end need free) = 0
+countedIn (Refused number at need free) = 0
+countedIn (BadTable number at free) = 1
+
+abbrev pub packedTranslation : Translated → ℕ
+packedTranslation r =
+    let a = Translations.inPaper r in
+    packed (a .number) (countedIn r) (a .place) (a .need)

@@ -3,6 +3,7 @@ mod conv;
 mod look;
 mod read;
 mod table;
+mod trans;
 
 use crate::answers;
 use crate::fields;
@@ -31,6 +32,10 @@ pub(crate) fn answer(
     let behind_look = fields::take_word(line, b"look");
     if behind_look.good {
         return look::answer(line, behind_look, table, text, out);
+    }
+    let behind_trans = fields::take_word(line, b"trans");
+    if behind_trans.good {
+        return trans::answer(line, behind_trans, text, table, lent, out);
     }
     answers::bad_line(out)
 }
