@@ -57,7 +57,7 @@ module _ (t : Trace) (size left : ℕ) (lent after : List ℕ) where
 module _ (t : Trace) (left : ℕ) where
   pub halted-answer : (number place room : ℕ) → run t left ≡ stopped number place → refusedAt number place 0 room ≡ translatedBy (answer t left room)
   halted-answer number place room e =
-      other number 0 _ _ (λ z. absurd (omega (arith, stopped-number t left number place e))) refl
+      other number 0 _ _ (λ z. absurd (omega (arith, stopped-number t left number place e .0))) refl
       ∙ ap (λ r. translatedBy (fit r (length (bytes t)) room)) (sym e)
 
   module _ (end left′ room : ℕ) (e : run t left ≡ finished end left′) where

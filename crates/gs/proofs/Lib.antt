@@ -5,3 +5,4 @@ pub mod Pieces
 pub mod Walk
 pub mod Follows
 pub mod Fills
+pub mod Limits

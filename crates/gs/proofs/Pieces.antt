@@ -59,8 +59,8 @@ laid-more out xs ys middle after at first second =
     }
 
 -- a record that a name means is the table's own at its place
-record Own (table : List ℕ) (m : Records.Meaning) : Type 0 where
-  own : (e : Entry) → m ≡ means e → e ≡ entryAt table (e .place)
+pub record Own (table : List ℕ) (m : Records.Meaning) : Type 0 where
+  pub own : (e : Entry) → m ≡ means e → e ≡ entryAt table (e .place)
 
 own-nothing : (table : List ℕ) → Own table nothing
 own-nothing table = record { own = λ e p. absurd (clash e p) }
@@ -77,7 +77,7 @@ own-here table place = record { own = λ e p. here e p }
         let q : entryAt table place ≡ e = cc in
         sym q ∙ ap (λ (f : Entry). entryAt table (f .place)) q
 
-meaning-own : (left : ℕ) (table name : List ℕ) (stop place : ℕ) → Own table (meaning (entries left table stop place) name)
+pub meaning-own : (left : ℕ) (table name : List ℕ) (stop place : ℕ) → Own table (meaning (entries left table stop place) name)
 unfolding meaning entries
 meaning-own zero table name stop place = own-nothing table
 meaning-own (suc left) table name stop place =

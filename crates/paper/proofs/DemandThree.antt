@@ -16,7 +16,7 @@ use Rattle.paper.specs.declared.faults.Fault.the-variants.{NoDigit, BadB
 use Rattle.paper.proofs.Choice.{below, not-below, either}
 
 -- no fault has the number of No room or of Allowance spent
-pub fault-number : (f : Fault) → (1 < numberOf f) × (numberOf f ≡ allowance-spent → ⊥)
+pub fault-number : (f : Fault) → (1 < numberOf f) × (numberOf f ≡ allowance-spent → ⊥) × (numberOf f ≤ 17)
 fault-number NoDigit = omega arith
 fault-number BadBase = omega arith
 fault-number TooBig = omega arith
@@ -31,7 +31,7 @@ fault-number NotAnInteger = omega arith
 
 -- a run that stopped has the number of a fault or of Allowance spent, never that of an accepted answer or of No room
 record Stops (r : Run) : Type 0 where
-  number : (n place : ℕ) → r ≡ stopped n place → 1 < n
+  number : (n place : ℕ) → r ≡ stopped n place → (1 < n) × (n ≤ 17)
 
 finished-stops : (end left : ℕ) → Stops (finished end left)
 finished-stops end left = record { number = λ n place e. absurd (clash n place e) }
@@ -39,11 +39,11 @@ finished-stops end left = record { number = λ n place e. absurd (clash n place 
     clash : (n place : ℕ) → finished end left ≡ stopped n place → ⊥
     clash n place e = let z : _≡_ {A = ℕ} 0 1 = cc in omega arith
 
-stopped-stops : (number place : ℕ) → 1 < number → Stops (stopped number place)
+stopped-stops : (number place : ℕ) → (1 < number) × (number ≤ 17) → Stops (stopped number place)
 stopped-stops number place over = record { number = λ n q e. same n q e }
   where
-    same : (n q : ℕ) → stopped number place ≡ stopped n q → 1 < n
-    same n q e = let s : number ≡ n = cc in omega arith
+    same : (n q : ℕ) → stopped number place ≡ stopped n q → (1 < n) × (n ≤ 17)
+    same n q e = let s : number ≡ n = cc in omega (arith, over)
 
 behind-stops : (r : Run) (place : ℕ) (rest : ℕ → Run) → Stops r → ((left : ℕ) → Stops (rest left)) → Stops (behind r place rest)
 behind-stops (finished end left) place rest s f = f left
@@ -51,14 +51,14 @@ behind-stops (stopped number inner) place rest s f = stopped-stops number place 
 
 run-stops : (t : Trace) (left : ℕ) → Stops (run t left)
 run-stops (ended end) left = finished-stops end left
-run-stops (refused fault place) left = stopped-stops (numberOf fault) place (fault-number fault .0)
+run-stops (refused fault place) left = stopped-stops (numberOf fault) place (fault-number fault .0, fault-number fault .2)
 run-stops (gives byte rest) left = run-stops rest left
 run-stops (asks name rest) left = run-stops rest left
 run-stops (spends place rest) zero = stopped-stops allowance-spent place (omega arith)
 run-stops (spends place rest) (suc left) = run-stops rest left
 run-stops (enters reference value rest) left = behind-stops (run value left) (reference .place) (run rest) (run-stops value left) (run-stops rest)
 
-pub stopped-number : (t : Trace) (left number place : ℕ) → run t left ≡ stopped number place → 1 < number
+pub stopped-number : (t : Trace) (left number place : ℕ) → run t left ≡ stopped number place → (1 < number) × (number ≤ 17)
 stopped-number t left number place e = run-stops t left .number number place e
 
 -- the run that reaches where the reading leads, with so many look-ups left
@@ -114,6 +114,24 @@ too-few (enters reference value rest) left less = go (decLt left (lookUps value)
         let split : lookUps value + m ≡ left = omega arith in
         subst (λ r. Spent (behind r (reference .place) (run rest))) (sym (enough value m) ∙ ap (run value) split)
         (spent-rest (ending value) (reference .place) m rest (omega arith) (outer m))
+
+-- a run that finished went where the reading leads, within its look-ups
+pub finished-within : (t : Trace) (left end left′ : ℕ) → run t left ≡ finished end left′ → (lookUps t ≤ left) × (ending t ≡ done end)
+finished-within t left end left′ e = go (decLt left (lookUps t))
+  where
+    spent : Spent (run t left) → ⊥
+    spent s = let p = s .is in let z : _≡_ {A = ℕ} 0 1 = cc in omega arith
+
+    led : (o : Ending) (m : ℕ) → with-left m o ≡ finished end left′ → o ≡ done end
+    led (done f) m h = ap done (cc)
+    led (failed fault place) m h = let z : _≡_ {A = ℕ} 0 1 = cc in absurd (omega arith)
+
+    go : Dec (left < lookUps t) → (lookUps t ≤ left) × (ending t ≡ done end)
+    go (yes p) = absurd (spent (too-few t left p))
+    go (no p) =
+        let m : ℕ = left - lookUps t in
+        let split : lookUps t + m ≡ left = omega arith in
+        (omega arith, led (ending t) m (sym (enough t m) ∙ ap (run t) split ∙ e))
 
 -- an answer does not see how many look-ups are left
 fit-left : (o : Ending) (left left′ need room : ℕ) → fit (with-left left o) need room ≡ fit (with-left left′ o) need room
