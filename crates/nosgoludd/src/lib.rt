@@ -7,7 +7,10 @@ ghost use lib.ListN.{length};
 ghost use Rattle.numbers.specs.Calls.{answerOf, bufferOf};
 ghost use Rattle.reader.specs.Reading.{reading};
 ghost use Rattle.variables.specs.Tables.{checked, lookedUp};
-ghost use Rattle.nosgoludd.specs.Packed.{packed, packedConversion, packedReading, packedCheck, packedFound};
+ghost use Rattle.gs.specs.Translations.{translated, outAfter};
+ghost use Rattle.nosgoludd.specs.Packed.{packed, packedConversion, packedReading, packedCheck, packedFound, packedTranslation};
+use gs::Translated;
+use gs::flags::Flags;
 use numbers::Converted;
 use paper::UNKNOWN_NAME;
 use reader::Reading;
@@ -86,5 +89,24 @@ pub extern "C" fn nos_look_up(table: &[u8], name: &[u8]) -> u64
         }
         Found::Nothing => pack(UNKNOWN_NAME, IN_THE_TABLE, 0, 0),
         Found::Unsound { number, at } => pack(number, IN_THE_TABLE, at.0, 0),
+    }
+}
+
+// Bits 29, 30 and 31 of `flags` are the text's flags; its other bits count for nothing.
+#[no_mangle]
+pub extern "C" fn nos_translate(text: &[u8], table: &[u8], flags: u32, allowance: u32, out: &mut [u8]) -> u64
+    ensures answer { λ r. ⌜ r ≡ packedTranslation (translated (now (text .entry)) (now (table .entry)) flags allowance (length (now (out .entry)))) ⌝ }
+    ensures buffer { λ r. ⌜ now (out .exit) ≡ outAfter (now (text .entry)) (now (table .entry)) flags allowance (now (out .entry)) ⌝ }
+{
+    let answer = gs::translate(text, table, Flags::of(flags), allowance, out);
+    match answer {
+        Translated::Written { end, need, free: _ } => pack(0, IN_THE_TEXT, end.0, need),
+        Translated::Refused {
+            number,
+            at,
+            need,
+            free: _,
+        } => pack(number, IN_THE_TEXT, at.0, need),
+        Translated::BadTable { number, at, free: _ } => pack(number, IN_THE_TABLE, at.0, 0),
     }
 }
