@@ -94,7 +94,13 @@ pub extern "C" fn nos_look_up(table: &[u8], name: &[u8]) -> u64
 
 // Bits 29, 30 and 31 of `flags` are the text's flags; its other bits count for nothing.
 #[no_mangle]
-pub extern "C" fn nos_translate(text: &[u8], table: &[u8], flags: u32, allowance: u32, out: &mut [u8]) -> u64
+pub extern "C" fn nos_translate(
+    text: &[u8],
+    table: &[u8],
+    flags: u32,
+    allowance: u32,
+    out: &mut [u8],
+) -> u64
     ensures answer { λ r. ⌜ r ≡ packedTranslation (translated (now (text .entry)) (now (table .entry)) flags allowance (length (now (out .entry)))) ⌝ }
     ensures buffer { λ r. ⌜ now (out .exit) ≡ outAfter (now (text .entry)) (now (table .entry)) flags allowance (now (out .entry)) ⌝ }
 {
@@ -107,6 +113,10 @@ pub extern "C" fn nos_translate(text: &[u8], table: &[u8], flags: u32, allowance
             need,
             free: _,
         } => pack(number, IN_THE_TEXT, at.0, need),
-        Translated::BadTable { number, at, free: _ } => pack(number, IN_THE_TABLE, at.0, 0),
+        Translated::BadTable {
+            number,
+            at,
+            free: _,
+        } => pack(number, IN_THE_TABLE, at.0, 0),
     }
 }

@@ -12,7 +12,10 @@ use Rattle.variables.proofs.check_table.Reads as check-table
 use Rattle.variables.proofs.look_up.Reads as look-up
 use Rattle.variables.specs.declared.Checked.{Checked}
 use Rattle.variables.specs.declared.Found.{Found}
-use Rattle.promises.specs.Allowed.{Converts, Reads, Checks, LooksUp}
+use Rattle.gs.proofs.translate.Reads as translate
+use Rattle.gs.specs.declared.Translated.{Translated}
+use Rattle.gs.specs.declared.flags.Flags.{Flags}
+use Rattle.promises.specs.Allowed.{Converts, Reads, Checks, LooksUp, Translates}
 
 pub convert-allows : (κs : Lfts 1) (call value : ℕ) (buf after : RefT (List ℕ)) (r : Converted)
     → convert.Learnt κs (call, (value, (buf, tt))) r (call, (value, (after, tt))) → Converts call value (now buf) r (now after)
@@ -29,3 +32,8 @@ check-table-allows κs table r learnt = record { answer = learnt }
 pub look-up-allows : (κs : Lfts 2) (table name : RefT (List ℕ)) (r : Found)
     → look-up.Learnt κs (table, (name, tt)) r (table, (name, tt)) → LooksUp (now table) (now name) r
 look-up-allows κs table name r learnt = record { answer = learnt }
+
+pub translate-allows : (κs : Lfts 3) (text table : RefT (List ℕ)) (flags : Flags) (allowance : ℕ) (out after : RefT (List ℕ)) (r : Translated)
+    → translate.Learnt κs (text, (table, (flags, (allowance, (out, tt))))) r (text, (table, (flags, (allowance, (after, tt)))))
+    → Translates (now text) (now table) (flags .0) allowance (now out) r (now after)
+translate-allows κs text table flags allowance out after r learnt = record { answer = learnt .0; buffer = learnt .1 }

@@ -5,3 +5,4 @@ pub mod WorkedExamples
 pub mod ConversionsKept
 pub mod ReadingsKept
 pub mod LookupsKept
+pub mod TranslationsKept

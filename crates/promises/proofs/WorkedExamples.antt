@@ -1,7 +1,7 @@
 -- Every worked example holds of every answer that the contracts allow.
 use mathlib.Core.Path.{_≡_, refl, ap, sym, _∙_}
 use mathlib.Core.Bool.{true, false}
-use mathlib.Core.List.{List, _++_}
+use mathlib.Core.List.{List, [], _∷_, _++_}
 use Prim.Native.Nat.{ℕ, _≤_, _<_}
 use native.Mathlib.Omega.{arith}
 use lib.Dec.{lit≤, lit<}
@@ -17,9 +17,17 @@ use Rattle.numbers.specs.declared.forms.Form.{Form}
 use Rattle.numbers.specs.declared.forms.Width.the-variants.{Byte, ThreeBytes, Word}
 use Rattle.reader.specs.Reading.{digit, judged, behind, numbered, reading, numberOf, placeOf, valueOf}
 use Rattle.reader.specs.declared.Reading.{Reading}
-use Rattle.promises.specs.Allowed.{Converts, Reads}
-use Rattle.promises.specs.Examples.{Row, writes, lacks, reads, refuses, Holds, All, examples}
-use Rattle.promises.proofs.Outcomes.{Outcome, unknown, short, whole, one-form, not-both, outcome}
+use Rattle.paper.specs.Traces as Traces
+use Rattle.variables.specs.Records.{headed, sized, fitting, nameAt, valueAt, nameByte, small, sameName, entryAt, entries, meaning}
+use Rattle.variables.specs.Tables.{sound, scanned, checked}
+use Rattle.gs.specs.Symbols.{symbolAt, active, barred, code, coded, punctuation, toppedCode, toppedSymbol, referred, closed, quotedOther, opened}
+use Rattle.gs.specs.Readings.{named, content, symbolic, following, whole, expands}
+use Rattle.gs.specs.Translations as Translations
+use Rattle.gs.specs.Translations.{readingOf, meant, leftBy, translated, outAfter}
+use Rattle.promises.specs.Allowed.{Converts, Reads, Translates}
+use Rattle.promises.specs.Examples.{Row, writes, lacks, reads, refuses, translates, Holds, All, examples}
+use Rattle.promises.specs.Texts.{bytes}
+use Rattle.promises.proofs.Outcomes.{Outcome, unknown, short, whole as entire, one-form, not-both, outcome}
 
 module _ (call value room : ℕ) (form : Form) (known : described call ≡ Known form) where
   -- the answer under a room is the definition's at that room
@@ -31,13 +39,13 @@ module _ (call value room : ℕ) (form : Form) (known : described call ≡ Known
       → after ≡ string form value ++ (terminator form ++ drop (needed form value) buf)
   fits buf after r room (unknown k) = absurd (not-both call form k known)
   fits buf after r room (short g k less) = absurd (omega (arith, ap (λ f. needed f value) (one-form call g form k known)))
-  fits buf after r room (whole g k more) =
+  fits buf after r room (entire g k more) =
       ap (λ f. string f value ++ (terminator f ++ drop (needed f value) buf)) (one-form call g form k known)
 
   lacking : (buf after : List ℕ) (r : Converted) → length buf < needed form value → Outcome call value buf r after → after ≡ buf
   lacking buf after r less (unknown k) = refl
   lacking buf after r less (short g k h) = refl
-  lacking buf after r less (whole g k h) = absurd (omega (arith, ap (λ f. needed f value) (one-form call g form k known)))
+  lacking buf after r less (entire g k h) = absurd (omega (arith, ap (λ f. needed f value) (one-form call g form k known)))
 
   writes-row : needed form value ≤ room → (buf after : List ℕ) (r : Converted) (answer : Answer) → length buf ≡ room
       → inPaper (answerOf call value room) ≡ answer → Converts call value buf r after
@@ -86,6 +94,34 @@ p9 : Holds (refuses "37_1" bad-base 0)
 unfolding reading numbered behind judged digit
 p9 r c = (ap numberOf (c .answer), ap placeOf (c .answer))
 
+p10 : Holds (translates "|!|@" [] 0 1 (128 ∷ []) 4 0)
+unfolding translated outAfter checked scanned sound headed sized fitting nameAt valueAt nameByte small sameName entryAt entries meaning meant named content symbolic following whole expands symbolAt active barred code coded punctuation toppedCode toppedSymbol referred closed quotedOther opened reading numbered behind judged digit string digits enough
+p10 out after r long c = (
+  ap Translations.inPaper (c .answer ∙ ap (translated (bytes "|!|@") [] 0 0) long),
+  c .buffer ∙ ap (λ n. leftBy (translated (bytes "|!|@") [] 0 0 n) (Traces.bytes (readingOf (bytes "|!|@") [] 0)) out) long,
+)
+
+p11 : Holds (translates "\"a\"\"b\"" [] 0 3 (bytes "a\"b") 6 0)
+unfolding translated outAfter checked scanned sound headed sized fitting nameAt valueAt nameByte small sameName entryAt entries meaning meant named content symbolic following whole expands symbolAt active barred code coded punctuation toppedCode toppedSymbol referred closed quotedOther opened reading numbered behind judged digit string digits enough
+p11 out after r long c = (
+  ap Translations.inPaper (c .answer ∙ ap (translated (bytes "\"a\"\"b\"") [] 0 0) long),
+  c .buffer ∙ ap (λ n. leftBy (translated (bytes "\"a\"\"b\"") [] 0 0 n) (Traces.bytes (readingOf (bytes "\"a\"\"b\"") [] 0)) out) long,
+)
+
+p12 : Holds (translates "<321>" [] 0 1 (bytes "A") 5 0)
+unfolding translated outAfter checked scanned sound headed sized fitting nameAt valueAt nameByte small sameName entryAt entries meaning meant named content symbolic following whole expands symbolAt active barred code coded punctuation toppedCode toppedSymbol referred closed quotedOther opened reading numbered behind judged digit string digits enough
+p12 out after r long c = (
+  ap Translations.inPaper (c .answer ∙ ap (translated (bytes "<321>") [] 0 0) long),
+  c .buffer ∙ ap (λ n. leftBy (translated (bytes "<321>") [] 0 0 n) (Traces.bytes (readingOf (bytes "<321>") [] 0)) out) long,
+)
+
+p13 : Holds (translates "<A>b" (86 ∷ 82 ∷ 0 ∷ 1 ∷ 1 ∷ 97 ∷ 120 ∷ []) 1 2 (bytes "xb") 4 0)
+unfolding translated outAfter checked scanned sound headed sized fitting nameAt valueAt nameByte small sameName entryAt entries meaning meant named content symbolic following whole expands symbolAt active barred code coded punctuation toppedCode toppedSymbol referred closed quotedOther opened reading numbered behind judged digit string digits enough
+p13 out after r long c = (
+  ap Translations.inPaper (c .answer ∙ ap (translated (bytes "<A>b") (86 ∷ 82 ∷ 0 ∷ 1 ∷ 1 ∷ 97 ∷ 120 ∷ []) 0 1) long),
+  c .buffer ∙ ap (λ n. leftBy (translated (bytes "<A>b") (86 ∷ 82 ∷ 0 ∷ 1 ∷ 1 ∷ 97 ∷ 120 ∷ []) 0 1 n) (Traces.bytes (readingOf (bytes "<A>b") (86 ∷ 82 ∷ 0 ∷ 1 ∷ 1 ∷ 97 ∷ 120 ∷ []) 0)) out) long,
+)
+
 -- the table, whole
 pub worked-examples : All examples
-worked-examples = (p1, (p2, (p3, (p4, (p5, (p6, (p7, (p8, (p9, tt)))))))))
+worked-examples = (p1, (p2, (p3, (p4, (p5, (p6, (p7, (p8, (p9, (p10, (p11, (p12, (p13, tt)))))))))))))

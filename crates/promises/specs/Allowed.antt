@@ -11,6 +11,8 @@ use Rattle.reader.specs.declared.Reading.{Reading}
 use Rattle.variables.specs.Tables.{checked, lookedUp}
 use Rattle.variables.specs.declared.Checked.{Checked}
 use Rattle.variables.specs.declared.Found.{Found}
+use Rattle.gs.specs.Translations.{translated, outAfter}
+use Rattle.gs.specs.declared.Translated.{Translated}
 
 -- `convert`
 pub record Converts (call value : ℕ) (buf : List ℕ) (r : Converted) (after : List ℕ) : Type 0 where
@@ -28,3 +30,8 @@ pub record Checks (table : List ℕ) (r : Checked) : Type 0 where
 -- `look_up`
 pub record LooksUp (table name : List ℕ) (r : Found) : Type 0 where
   pub answer : r ≡ lookedUp table name
+
+-- `translate`
+pub record Translates (text table : List ℕ) (flags allowance : ℕ) (out : List ℕ) (r : Translated) (after : List ℕ) : Type 0 where
+  pub answer : r ≡ translated text table flags allowance (length out)
+  pub buffer : after ≡ outAfter text table flags allowance out

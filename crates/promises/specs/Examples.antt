@@ -10,7 +10,9 @@ use Rattle.numbers.specs.Strings.{inPaper}
 use Rattle.numbers.specs.declared.Converted.{Converted}
 use Rattle.reader.specs.Reading.{numberOf, placeOf, valueOf}
 use Rattle.reader.specs.declared.Reading.{Reading}
-use Rattle.promises.specs.Allowed.{Converts, Reads}
+use Rattle.gs.specs.Translations as Translations
+use Rattle.gs.specs.declared.Translated.{Translated}
+use Rattle.promises.specs.Allowed.{Converts, Reads, Translates}
 use Rattle.promises.specs.Texts.{bytes}
 
 pub data Row : Type 0 where
@@ -22,6 +24,8 @@ pub data Row : Type 0 where
   reads : (text : String) (value place : ℕ) → Row
   -- a text, without options: the refusal number and its place
   refuses : (text : String) (number place : ℕ) → Row
+  -- a text, a table, an allowance and a room, no flags: the bytes given, and the place of the text's end
+  translates : (text : String) (table : List ℕ) (allowance room : ℕ) (given : List ℕ) (end free : ℕ) → Row
 
 abbrev pub Holds : Row → Type 0
 Holds (writes call value room string offset need free) =
@@ -34,6 +38,9 @@ Holds (reads text value place) =
     (r : Reading) → Reads (bytes text) false 4294967295 r → (numberOf r ≡ 0) × (valueOf r ≡ value) × (placeOf r ≡ place)
 Holds (refuses text number place) =
     (r : Reading) → Reads (bytes text) false 4294967295 r → (numberOf r ≡ number) × (placeOf r ≡ place)
+Holds (translates text table allowance room given end free) =
+    (out after : List ℕ) (r : Translated) → length out ≡ room → Translates (bytes text) table 0 allowance out r after
+    → (Translations.inPaper r ≡ record { number = 0; place = end; need = length given; free = free }) × (after ≡ given ++ drop (length given) out)
 
 abbrev pub All : List Row → Type 0
 All [] = Unit {0}
@@ -59,4 +66,12 @@ examples =
     ∷ reads "2_1102" 6 5
     -- P9
     ∷ refuses "37_1" bad-base 0
+    -- P10
+    ∷ translates "|!|@" [] 0 1 (128 ∷ []) 4 0
+    -- P11
+    ∷ translates "\"a\"\"b\"" [] 0 3 (bytes "a\"b") 6 0
+    -- P12
+    ∷ translates "<321>" [] 0 1 (bytes "A") 5 0
+    -- P13
+    ∷ translates "<A>b" (86 ∷ 82 ∷ 0 ∷ 1 ∷ 1 ∷ 97 ∷ 120 ∷ []) 1 2 (bytes "xb") 4 0
     ∷ []

@@ -1,0 +1,96 @@
+-- What `translate` promises is kept: demand 3 is that of every trace, at the trace of the reading.
+use mathlib.Core.Path.{_≡_, refl, ap, sym, subst, subst₂, _∙_}
+use mathlib.Core.Bool.{Bool, true, false, cond}
+use mathlib.Core.List.{List, _++_}
+use Prim.Native.Nat.{ℕ, _+_, _-_, _≤_, min}
+use native.Mathlib.Omega.{arith}
+use lib.Dec.{eqb}
+use lib.ListN.{length, drop}
+use borrow.Author.Tests.{eqb-true}
+use Rattle.paper.specs.Answers.{Answer, Grown}
+use Rattle.paper.specs.Refusals.{no-room, allowance-spent, longest}
+use Rattle.paper.specs.Traces.{Trace, bytes, answer}
+use Rattle.paper.proofs.Choice.{not-below}
+use Rattle.paper.proofs.DemandThree.{more-room, more-allowance, no-room-exactly, no-room-need, spent-exactly}
+use Rattle.variables.specs.Tables.{checked}
+use Rattle.gs.specs.Translations.{readingOf, allowed, translatedBy, translatedOver, leftBy, translated, outAfter, inPaper}
+use Rattle.gs.specs.declared.Translated.{Translated}
+use Rattle.gs.specs.declared.Translated.the-variants.{Written, Refused, BadTable}
+use Rattle.promises.specs.Allowed.{Translates}
+use Rattle.promises.specs.Translations.{OneAnswer, Kept, Bytes, Sound, ByReading, LargerRoom, LargerAllowance, NoRoom, Spent}
+
+pub one-answer : OneAnswer
+one-answer text table flags allowance out after after′ r r′ c c′ = (c .answer ∙ sym (c′ .answer), c .buffer ∙ sym (c′ .buffer))
+
+-- what is left in the buffer goes by the answer
+left-by : (text table : List ℕ) (flags allowance : ℕ) (out after : List ℕ) (r : Translated) → Translates text table flags allowance out r after
+    → after ≡ leftBy r (bytes (readingOf text table flags)) out
+unfolding outAfter
+left-by text table flags allowance out after r c = c .buffer ∙ ap (λ r. leftBy r (bytes (readingOf text table flags)) out) (sym (c .answer))
+
+kept-by : (r : Translated) (given out : List ℕ) → (inPaper r .number ≡ 0 → ⊥) → leftBy r given out ≡ out
+kept-by (Written end need free) given out n = absurd (n refl)
+kept-by (Refused number at need free) given out n = refl
+kept-by (BadTable number at free) given out n = refl
+
+pub kept : Kept
+kept text table flags allowance out after r c n =
+    left-by text table flags allowance out after r c ∙ kept-by r (bytes (readingOf text table flags)) out n
+
+pub bytes-left : Bytes
+bytes-left text table flags allowance out after r c end need free e =
+    left-by text table flags allowance out after r c ∙ ap (λ r. leftBy r (bytes (readingOf text table flags)) out) e
+
+in-by : (a : Answer) → inPaper (translatedBy a) ≡ a
+in-by a = go (eqb (a .number) 0) refl
+  where
+    go : (b : Bool) → eqb (a .number) 0 ≡ b
+        → inPaper (cond b (Written (record { 0 = a .place }) (a .need) (a .free)) (Refused (a .number) (record { 0 = a .place }) (a .need) (a .free))) ≡ a
+    go true e = let z : a .number ≡ 0 = eqb-true (a .number) 0 e in λ i. record { number = sym z i; place = a .place; need = a .need; free = a .free }
+    go false e = refl
+
+sound-answer : (text table : List ℕ) (flags allowance room : ℕ) → Sound text table
+    → translatedBy (answer (readingOf text table flags) (allowed allowance) room) ≡ translated text table flags allowance room
+unfolding translated
+sound-answer text table flags allowance room s =
+    not-below longest (length text) _ _ (s .short) (ap (λ d. translatedOver d (readingOf text table flags) allowance room) (sym (s .good)))
+
+pub by-reading : ByReading
+by-reading text table flags allowance out after r s c =
+    ap inPaper (c .answer ∙ sym (sound-answer text table flags allowance (length out) s))
+    ∙ in-by (answer (readingOf text table flags) (allowed allowance) (length out))
+
+pub larger-room : LargerRoom
+larger-room text table flags allowance more out after out′ after′ r r′ s longer c c′ n =
+    let t = readingOf text table flags in
+    let e = by-reading text table flags allowance out after r s c in
+    let e′ = by-reading text table flags allowance out′ after′ r′ s c′ ∙ ap (answer t (allowed allowance)) longer in
+    subst₂ (Grown more) (sym e) (sym e′)
+    (more-room t (allowed allowance) (length out) more (λ h. n (ap (λ (a : Answer). a .number) e ∙ h)))
+
+pub larger-allowance : LargerAllowance
+larger-allowance text table flags allowance allowance′ out after after′ r r′ s more c c′ n =
+    let t = readingOf text table flags in
+    let e = by-reading text table flags allowance out after r s c in
+    let e′ = by-reading text table flags allowance′ out after′ r′ s c′ in
+    let up : allowed allowance + (allowed allowance′ - allowed allowance) ≡ allowed allowance′ = omega arith in
+    e′ ∙ ap (λ l. answer t l (length out)) (sym up)
+    ∙ more-allowance t (allowed allowance) (allowed allowance′ - allowed allowance) (length out) (λ h. n (ap (λ (a : Answer). a .number) e ∙ h))
+    ∙ sym e
+
+pub no-room-comes : NoRoom
+no-room-comes text table flags allowance out after r s c =
+    let t = readingOf text table flags in
+    let e = by-reading text table flags allowance out after r s c in
+    let n = ap (λ (a : Answer). a .number) e in
+    let exactly = no-room-exactly t (allowed allowance) (length out) in (
+      (λ h. exactly .0 (sym n ∙ h), λ h. n ∙ exactly .1 h),
+      λ h. ap (λ (a : Answer). a .need) e ∙ no-room-need t (allowed allowance) (length out) (sym n ∙ h),
+    )
+
+pub spent-comes : Spent
+spent-comes text table flags allowance out after r s c =
+    let t = readingOf text table flags in
+    let n = ap (λ (a : Answer). a .number) (by-reading text table flags allowance out after r s c) in
+    let exactly = spent-exactly t (allowed allowance) (length out) in
+    (λ h. exactly .0 (sym n ∙ h), λ h. n ∙ exactly .1 h)
