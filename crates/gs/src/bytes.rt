@@ -3,11 +3,11 @@ ghost use mathlib.Core.Path.{_≡_};
 ghost use Prim.Native.Nat.{_+_};
 ghost use lib.ListN.{getD, drop};
 ghost use Rattle.reader.specs.Reading.{spaces, among};
-ghost use Rattle.variables.specs.Records.{nameByte};
 ghost use Rattle.gs.specs.SymbolSteps.{unmarked, stops, marks};
 ghost use Rattle.gs.specs.Symbols.{ends, endingSpace, nameRun};
 use crate::flags::Flags;
 use crate::symbols::Mode;
+use variables::names::is_name_byte;
 
 // The byte at a place, 0 past the slice's end.
 pub(crate) fn byte(text: &[u8], at: usize) -> u8
@@ -57,13 +57,6 @@ pub(crate) fn is_mark(mark: u8, flags: Flags, bit: u32, c: u8) -> bool
     ensures { λ r. ⌜ r ≡ marks mark (flags .0) bit c ⌝ }
 {
     c == mark && !flags.has(bit)
-}
-
-// Whether a name may have a byte.
-pub(crate) fn is_name_byte(c: u8) -> bool
-    ensures { λ r. ⌜ r ≡ nameByte c ⌝ }
-{
-    33 <= c && (c <= 126 && (c != b'"' && (c != b'<' && c != b'>')))
 }
 
 // The first place from `start` on whose byte is no space.

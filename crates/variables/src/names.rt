@@ -6,7 +6,7 @@ ghost use lib.Dec.{eqb};
 ghost use Rattle.variables.specs.Records.{nameByte, allNameBytes, small, sameName};
 
 // A byte that a name may have. The quote, "<" and ">" mean something in a text.
-pub(crate) fn is_name_byte(c: u8) -> bool
+pub fn is_name_byte(c: u8) -> bool
     ensures { λ r. ⌜ r ≡ nameByte c ⌝ }
 {
     if c < 33 {
