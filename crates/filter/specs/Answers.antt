@@ -1,0 +1,25 @@
+-- What the program writes for what it reads.
+use mathlib.Core.Path.{_≡_}
+use mathlib.Core.List.{List, []}
+use Prim.Native.Nat.{ℕ, _≤_}
+use lib.ListN.{length, take}
+use Rattle.paper.specs.Refusals.{longest}
+use Rattle.paper.specs.Traces.{bytes}
+use Rattle.gs.specs.Translations.{readingOf, translated}
+use Rattle.gs.specs.declared.Translated.{Translated}
+use Rattle.gs.specs.declared.Translated.the-variants.{Written, Refused, BadTable}
+use Rattle.filter.specs.Lines.{refusalLine}
+
+-- the bytes that were given, or the line of a refusal
+abbrev pub shown : Translated → List ℕ → List ℕ
+shown (Written end need free) given = given
+shown (Refused number at need free) given = refusalLine number (at .0)
+shown (BadTable number at free) given = refusalLine number (at .0)
+
+-- a text with no table, no flags, allowance 0 and room 65,535
+unfoldable pub answerTo : List ℕ → List ℕ
+answerTo text = shown (translated text [] 0 0 longest) (bytes (readingOf text [] 0))
+
+-- the first bytes of a buffer answer the text that stands at the start of another
+abbrev pub Answered : List ℕ → ℕ → List ℕ → ℕ → Type 0
+Answered input text out answer = (text ≤ length input) × (answer ≤ length out) × (take answer out ≡ answerTo (take text input))
