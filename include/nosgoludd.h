@@ -1,22 +1,23 @@
-/* Nosgoludd: numbers to strings, numbers read from texts, and variables in a table, whole or refused.
+/* Nosgoludd: numbers to strings, numbers read from texts, variables in a table, and texts that name them, whole or refused.
  *
  * An office certifies organic farms from old diaries. Once a quantity fell across the end of a 1,048,576-byte buffer, the
- * conversion cut it, and the rows behind it were never seen. So a conversion comes whole, or it is refused and writes nothing,
- * and the refusal carries the room that would have been enough: ask again with that room.
+ * conversion cut it, and the rows behind it were never seen. So a conversion or a translation comes whole, or it is refused and
+ * writes nothing, and where room was all it lacked the refusal carries the need: ask again with that room.
  *
- * Link libnosgoludd.a: x86-64 Linux, and it needs no other library. The functions are proved to give these answers for every
- * input. They keep nothing between calls, allocate nothing and always return, so threads may call them at once.
+ * Link libnosgoludd.a: x86-64 Linux, and all it needs is the C library's memcpy. The functions are proved to give these answers
+ * for every input. They keep nothing between calls, allocate nothing and always return, so threads may call them at once.
  *
- * What the proof asks of you: buf points to `room` bytes that may be written, text to `length` bytes that may be read, and
- * nothing else (a thread, a shared mapping) writes any of them before the call returns, nor reads those of buf. With a room or a
- * length of 0 the pointer is not used and may be NULL: the compiled code was looked at for that, and examples/c runs both so.
+ * What the proof asks of you: a pointer points to as many bytes as the room or length behind it says, which may be read, and for
+ * buf and out written. Nothing else (a thread, a shared mapping) writes any of them before the call returns, nor reads those of
+ * buf and out; out overlaps neither text nor table. With a room or a length of 0 the pointer is not used and may be NULL: the
+ * compiled code was looked at for that, and examples/c runs every one so.
  *
  * THE ANSWER is one number, so that a refusal writes nothing anywhere:
  *
  *   bits 0 to 7     nos_number    the refusal number; 0: accepted
- *   bits 8 to 15    nos_counted   what the place is counted in: 0 the text, 1 the table
+ *   bits 8 to 15    nos_counted   what the place is counted in: 1 the table; 0 the text, for nos_convert buf
  *   bits 16 to 31   nos_place     the place
- *   bits 32 to 63   nos_need      nos_convert: the need
+ *   bits 32 to 63   nos_need      nos_convert and nos_translate: the need
  *                   nos_value     nos_read_unsigned: the value; nos_check_table: the number of records; nos_look_up: the kind
  *
  * &D0 is 0xD0, as the RISC OS manual writes it.
@@ -32,7 +33,7 @@ extern "C" {
 #endif
 
 /* One numbering for the whole library. nos_convert refuses by 14 and 1, nos_read_unsigned by 18, 3, 2, 4, 5 and 6, nos_check_table
- * by 18 and 13, nos_look_up by 18, 13 and 10. */
+ * by 18 and 13, nos_look_up by 18, 13 and 10, nos_translate by 18, 13, 9, 4, 10, 11, 12, 7, 8 and 1, and none by 15, 16 or 17. */
 enum nos_refusal {
     NOS_ACCEPTED = 0,
     NOS_NO_ROOM = 1,
@@ -135,26 +136,90 @@ enum nos_kind { NOS_STRING = 0, NOS_INTEGER = 1, NOS_MACRO = 2 };
  *
  *   86, 82, kind, name length (1 to 32), value length (0 to 255), name, value
  *
- * Kind 0 is a string, 1 an integer (4 bytes, the lowest first), 2 a macro. Name bytes are 33 to 126 and not 34, 60 or 62. Names are
- * equal when they differ only in the case of A to Z; no two records have equal names. At most 256 records; no record is good too.
+ * Kind 0 is a string, 1 an integer (4 bytes, the lowest first, two's complement), 2 a macro. Name bytes are 33 to 126 and not 34,
+ * 60 or 62; value bytes are free. Names are equal when they differ at most in the case of A to Z; no two records have equal names.
+ * At most 256 records; no record at all is good too.
  *
  *   accepted   the number of records; place 0
- *   refused    18 NOS_OVER_LENGTH   the table is longer than 65,535 bytes; place 0
- *              13 NOS_BAD_TABLE     the place of the first bad record's mark; the later of two equal names is the bad one, and so is
- *                                   anything behind 256 records
- * Every place is counted in the table.
+ *   refused    value 0. The first of these that holds:
+ *              18 NOS_OVER_LENGTH   the table is longer than 65,535 bytes; place 0
+ *              13 NOS_BAD_TABLE     where the first bad record starts. Of two equal names the later one is bad, and so is a record
+ *                                   that the table's end cuts off, and anything behind 256 records
+ * Every place is counted in the table, that of an accepted one too.
  */
 uint64_t nos_check_table(const uint8_t *table, size_t length);
 
-/* Looks a name up in a table. The whole table is checked first.
+/* Looks a name up in a table. The whole table is checked first. The name may be any bytes, and any number of them.
  *
  *   accepted   the record's place (that of its mark), and its kind. Its value lies at place + 5 + table[place + 3], and has
  *              table[place + 4] bytes, all of them inside the table
- *   refused    18 and 13 as by nos_check_table, then
+ *   refused    value 0: 18 and 13 as by nos_check_table, then
  *              10 NOS_UNKNOWN_NAME   no record has an equal name; place 0
- * Every place is counted in the table.
+ * Every place is counted in the table, that of 10 too.
  */
 uint64_t nos_look_up(const uint8_t *table, size_t length, const uint8_t *name, size_t name_length);
+
+/* The flags of a text. Other bits count for nothing. */
+#define NOS_SPACE_ENDS (1u << 29)   /* a space behind the leading ones and outside quotes ends the text */
+#define NOS_BAR_PLAIN (1u << 30)    /* "|" is an ordinary byte: no codes */
+#define NOS_QUOTE_PLAIN (1u << 31)  /* a quote opens nothing: it is an ordinary byte */
+
+/* Translates a text into bytes at the start of out, with no terminator. An ordinary byte gives itself.
+ *
+ * The text ends at the first byte 0, 10 or 13, in quotes and in references too, or at its length. Bytes behind that end are not
+ * read, but count for the length. Leading spaces (byte 32 alone) are skipped under every flag.
+ *
+ * Quotes: one standing first behind those spaces opens a quoted string. In it "" gives one quote, a single one closes it, no space
+ * ends it, and codes and references are read. Behind the closing quote spaces are skipped and the text must end; with
+ * NOS_SPACE_ENDS a space or the end must stand directly there, and that is the text's end. In any other text quotes are ordinary.
+ *
+ * Codes:
+ *   |@              0            |[ or |{     27           |^ or |~     30           || |< |"   the byte behind the bar
+ *   |A to |Z        1 to 26      |\           28           |_ or |'     31           |!         sets the top bit of the ordinary
+ *   |a to |z        1 to 26      |] or |}     29           |?           127                    byte or the other code behind it
+ * Bad: any other byte behind "|"; the end there; and behind "|!" the end (with NOS_SPACE_ENDS a space outside quotes too), a bare
+ * "<", a quote under any flags, or another "|!".
+ *
+ * A reference is "<", one or more bytes that a name may have, and ">". What stands between is read as by nos_read_unsigned with
+ * whole and no limit. A number gives one byte, its remainder by 256. What is refused there, but not by 4, is a name:
+ *   a string    gives its bytes, which are not read again
+ *   an integer  gives its signed decimal
+ *   a macro     gives its value translated as a text of its own, without flags, one level deeper; at most 16 levels
+ * Each name takes one look-up out of one allowance for the whole call, macros' names too. Numbers take none.
+ *
+ *   allowance   how many look-ups; over 1,024 counts as 1,024
+ *
+ * The need is the number of bytes given. It is at most 323,583: a name takes 3 bytes of text or more, and adds 255 or fewer.
+ *   accepted   the place of the text's end: behind all spaces that were skipped, or that of the space that ended it. Bytes of out
+ *              behind the need stay as they were.
+ *   refused    every byte of out stays as it was; need 0 except for 1. The first of these that holds:
+ *              18 NOS_OVER_LENGTH       the text is longer than 65,535 bytes; place 0
+ *              18 NOS_OVER_LENGTH       the table is; place 0, counted in the table
+ *              13 NOS_BAD_TABLE         as by nos_check_table, the place counted in the table
+ *                 then the first of these that the reading meets from the left:
+ *               9 NOS_BAD_REFERENCE     no name byte behind the "<", or no ">" behind those; the "<"
+ *               4 NOS_TOO_BIG           its number is over 4,294,967,295; the "<"
+ *              10 NOS_UNKNOWN_NAME      no record has an equal name; the "<"
+ *              11 NOS_TOO_DEEP          a macro named at level 16, your text being level 0; the "<"
+ *              12 NOS_ALLOWANCE_SPENT   no look-up is left for the name; the "<"
+ *               7 NOS_BAD_CODE          the "|", of "|!|" the first
+ *               8 NOS_BAD_STRING        the text ends in the quotes: the open quote; it goes on behind them: the byte there
+ *                 and last:
+ *               1 NOS_NO_ROOM           the room is less than the need, and the need is in the answer; place 0
+ *              At one reference 9, 4, 10, 11, 12 come in this order. A refusal inside a macro has its own number, and the place of
+ *              the "<" in your text that led there.
+ * Free is room - need where accepted, and room where refused.
+ *
+ * With a string a, the byte x, and a macro m, the bytes <A>| and no more; with no flags, allowance 2 and room 2:
+ *   <A>b         xb, place 4, need 2, free 0              b<m>           refused 7 at 1, for the bar in the macro
+ *   |!|@         the byte 128, place 4, need 1, free 1    b<c>           refused 10 at 1
+ *   <321>        A, place 5, need 1, free 1               <a><a><a>      refused 12 at 6
+ *   """"         ", place 4, need 1, free 1               <4294967296>   refused 4 at 0
+ *   "b"  c       refused 8 at 5; with NOS_SPACE_ENDS      a<             refused 9 at 1
+ *                b, place 3, need 1, free 1               <A>bc          refused 1, need 3, free 2, out as it was
+ */
+uint64_t nos_translate(const uint8_t *text, size_t length, const uint8_t *table, size_t table_length, uint32_t flags,
+                       uint32_t allowance, uint8_t *out, size_t room);
 
 static inline uint32_t nos_number(uint64_t answer) { return (uint32_t)(answer & 0xFF); }
 static inline uint32_t nos_counted(uint64_t answer) { return (uint32_t)(answer >> 8 & 0xFF); }

@@ -1,27 +1,27 @@
-/* A clerk who copies quantities and reads them back. What is printed was checked first; at the first thing that is off the
- * clerk says so and ends with status 1. Arguments are read as numbers; with none the clerk does the whole day's work. */
+/* A clerk who copies quantities and reads them back, and heads the pages (headings.c). What is printed was checked first; at the
+ * first thing that is off the clerk says so and ends with status 1. Arguments are read as numbers; with none the clerk does the
+ * whole day's work. */
 #include <inttypes.h>
 #include <stdio.h>
 #include <stdlib.h>
 #include <string.h>
 
-#include "nosgoludd.h"
+#include "clerk.h"
 
-/* SHEET is the most that any call needs. The margins are neighbours of what is lent: no call may touch them. */
-enum { MARGIN = 16, SHEET = 33, PAGE = 1048576, DIARY = MARGIN + 2 * PAGE + MARGIN };
+enum { SHEET = 33 }; /* the most that any call needs */
 
 static uint8_t sheet[MARGIN + SHEET + MARGIN];
-static uint8_t diary[DIARY];
+uint8_t diary[DIARY];
 static uint8_t as_it_was[DIARY];
 
-static void check(int holds, const char *claim)
+void check(int holds, const char *claim)
 {
     if (holds) return;
     printf("OFF, this does not hold: %s\n", claim);
     exit(1);
 }
 
-static const char *in_words(uint64_t answer)
+const char *in_words(uint64_t answer)
 {
     switch (nos_number(answer)) {
     case NOS_NO_ROOM: return "no room";
@@ -30,24 +30,43 @@ static const char *in_words(uint64_t answer)
     case NOS_TOO_BIG: return "over 4294967295";
     case NOS_NOT_ENDED: return "the number goes on";
     case NOS_OVER_LIMIT: return "over the limit";
+    case NOS_BAD_CODE: return "no such code";
+    case NOS_BAD_STRING: return "the quotes go wrong there";
+    case NOS_BAD_REFERENCE: return "not a whole reference";
+    case NOS_UNKNOWN_NAME: return "unknown name";
+    case NOS_TOO_DEEP: return "over 16 levels";
+    case NOS_ALLOWANCE_SPENT: return "the allowance is spent";
+    case NOS_BAD_TABLE: return "a bad record";
     case NOS_UNKNOWN_CALL: return "unknown call";
     case NOS_OVER_LENGTH: return "over 65535 bytes";
     }
-    check(0, "the two functions give no other number");
+    check(0, "the five functions give no other number");
     return "";
 }
 
-/* Bytes that differ from their neighbours and are in no string, so that one moved or written is seen. */
-static void fill(uint8_t *bytes, size_t size)
+void fill(uint8_t *bytes, size_t size)
 {
     for (size_t i = 0; i < size; i++) bytes[i] = (uint8_t)(0x80 + i % 113);
+}
+
+void remember(const uint8_t *paper, size_t size)
+{
+    check(size <= sizeof as_it_was, "no paper is larger than the diary");
+    memcpy(as_it_was, paper, size);
+}
+
+void check_the_rest(const uint8_t *paper, size_t size, size_t at, size_t written)
+{
+    size_t behind = at + written;
+    check(memcmp(paper, as_it_was, at) == 0, "every byte before what was written is as it was");
+    check(memcmp(paper + behind, as_it_was + behind, size - behind) == 0, "every byte behind what was written is as it was");
 }
 
 /* Converts into the part of a paper that starts at `at`, and checks what holds of every call: the whole string stands there with
  * its zero byte, or nothing does; and every other byte of the paper is as it was. */
 static uint64_t convert(uint32_t call, uint32_t value, uint8_t *paper, size_t size, size_t at, size_t room)
 {
-    memcpy(as_it_was, paper, size);
+    remember(paper, size);
     uint64_t answer = nos_convert(call, value, paper + at, room);
     size_t place = nos_place(answer), need = nos_need(answer), written = 0;
     check(nos_counted(answer) == NOS_IN_THE_TEXT, "a place is counted in the text");
@@ -60,9 +79,7 @@ static uint64_t convert(uint32_t call, uint32_t value, uint8_t *paper, size_t si
         check(place == 0, "a refused conversion has the place 0");
         check(nos_number(answer) == NOS_NO_ROOM ? need > room : need == 0, "a need is over the room; other refusals have none");
     }
-    check(memcmp(paper, as_it_was, at) == 0, "every byte before what was written is as it was");
-    size_t behind = at + written;
-    check(memcmp(paper + behind, as_it_was + behind, size - behind) == 0, "every byte behind what was written is as it was");
+    check_the_rest(paper, size, at, written);
     return answer;
 }
 
@@ -241,6 +258,7 @@ int main(int argc, char **argv)
         across_the_page();
         read_back();
         readings();
+        headings();
     }
     for (int i = 1; i < argc; i++) show(argv[i], "", read_number(argv[i], strlen(argv[i]), 0, NOS_NO_LIMIT));
     puts("nothing is off");

@@ -9,6 +9,7 @@ mod lines;
 
 use gs::Translated;
 use gs::flags::Flags;
+use libc::STDERR_FILENO;
 use libc::STDIN_FILENO;
 use libc::STDOUT_FILENO;
 
@@ -45,14 +46,37 @@ fn answer(text: &[u8], out: &mut [u8]) -> usize
     }
 }
 
-// A read that fails ends the input, and a write that fails the output.
+// Whether there is nothing more to read. `io::read_full` stops at a read that fails as it does at the end.
+fn input_ended() -> bool {
+    let mut byte = [0; 1];
+    libc::read(STDIN_FILENO, &mut byte) == 0
+}
+
+// Writes the answer to a text that was read whole. A text that a failed read cut off gets no answer: nobody could tell it from a
+// whole one's. A program has no exit status to tell of it, so standard error does.
+fn send(whole: bool, answer: &[u8]) {
+    if !whole && !input_ended() {
+        io::write_all(
+            STDERR_FILENO,
+            b"translate: standard input failed, nothing was translated\n",
+        );
+        return;
+    }
+    if !io::write_all(STDOUT_FILENO, answer) {
+        io::write_all(
+            STDERR_FILENO,
+            b"translate: standard output failed, the answer is cut\n",
+        );
+    }
+}
+
 fn pass(input: &mut [u8], out: &mut [u8]) -> Lengths
     requires { ⌜ length (now out) ≡ longest ⌝ }
     ensures { λ r. ⌜ Answered (now (input .exit)) (r .text) (now (out .exit)) (r .answer) ⌝ }
 {
     let text = io::read_full(STDIN_FILENO, input);
     let answer = answer(&input[..text], out);
-    io::write_all(STDOUT_FILENO, &out[..answer]);
+    send(text == 65536, &out[..answer]);
     Lengths { text, answer }
 }
 

@@ -1,0 +1,27 @@
+/* What the clerk's two papers share. */
+#ifndef CLERK_H
+#define CLERK_H
+
+#include "nosgoludd.h"
+
+/* The margins are neighbours of what is lent: no call may touch them. */
+enum { MARGIN = 16, PAGE = 1048576, DIARY = MARGIN + 2 * PAGE + MARGIN };
+
+extern uint8_t diary[DIARY];
+
+/* Ends the day where a claim does not hold. */
+void check(int holds, const char *claim);
+
+const char *in_words(uint64_t answer);
+
+/* Bytes that differ from their neighbours, with the top bit set, so that one moved or written is seen. */
+void fill(uint8_t *bytes, size_t size);
+
+/* Keeps a copy of a paper; later checks that all of it but the `written` bytes at `at` is as it was. */
+void remember(const uint8_t *paper, size_t size);
+void check_the_rest(const uint8_t *paper, size_t size, size_t at, size_t written);
+
+/* The work on variables and texts. */
+void headings(void);
+
+#endif

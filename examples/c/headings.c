@@ -1,0 +1,291 @@
+/* The clerk's headings: variables in a table, and texts that name them. */
+#include <inttypes.h>
+#include <stdio.h>
+#include <string.h>
+
+#include "clerk.h"
+
+/* MOST is the most that any translation needs: 1,024 names of one letter and three bytes of text, each giving 255 bytes. */
+enum { SLIP = 64, MOST = NOS_LONGEST + 1024 * 252 };
+
+static const struct { uint8_t kind; const char *name, *value; size_t length, place; } variables[] = {
+    {NOS_STRING, "Farm$Name", "Lower Ash", 9, 0},
+    {NOS_INTEGER, "Balance", "\x1E\xFB\xFF\xFF", 4, 23}, /* -1250 */
+    {NOS_MACRO, "Heading", "<farm$name>: <balance>", 22, 39},
+    {NOS_MACRO, "Owner", "of <Nobody>", 11, 73},
+    {NOS_MACRO, "Again", "<again>", 7, 94},
+};
+enum { VARIABLES = sizeof variables / sizeof variables[0] };
+
+static const char *const kinds[] = {"a string", "an integer", "a macro"};
+
+static uint8_t table[128];
+static size_t table_length;
+static uint8_t slip[MARGIN + SLIP + MARGIN];
+static uint8_t longest[NOS_LONGEST + 1];
+
+static const uint8_t *bytes_of(const char *text) { return (const uint8_t *)text; }
+
+/* Printable bytes as they are, others as numbers in brackets. */
+static void print_bytes(const uint8_t *bytes, size_t length)
+{
+    for (size_t i = 0; i < length; i++) printf(bytes[i] >= 32 && bytes[i] < 127 ? "%c" : "[%d]", bytes[i]);
+}
+
+/* Writes a record; its length. */
+static size_t put_record(uint8_t *at, uint8_t kind, const char *name, const void *value, size_t length)
+{
+    size_t name_length = strlen(name);
+    const uint8_t head[] = {86, 82, kind, (uint8_t)name_length, (uint8_t)length};
+    memcpy(at, head, sizeof head);
+    memcpy(at + sizeof head, name, name_length);
+    memcpy(at + sizeof head + name_length, value, length);
+    return sizeof head + name_length + length;
+}
+
+static uint64_t check_table(size_t length)
+{
+    uint64_t answer = nos_check_table(table, length);
+    check(nos_counted(answer) == NOS_IN_THE_TABLE && nos_place(answer) <= length, "a place is counted in the table");
+    check(nos_number(answer) == NOS_ACCEPTED ? nos_place(answer) == 0 : nos_value(answer) == 0,
+          "a good table has the place 0, a refused one no number of records");
+    return answer;
+}
+
+static void expect_bad(size_t length, size_t place, const char *how)
+{
+    uint64_t answer = check_table(length);
+    check(nos_number(answer) == NOS_BAD_TABLE && nos_place(answer) == place, how);
+    printf("%s: refused %" PRIu32 " at %zu, %s\n", how, nos_number(answer), nos_place(answer), in_words(answer));
+}
+
+static void build_the_table(void)
+{
+    for (size_t i = 0; i < VARIABLES; i++) {
+        check(table_length == variables[i].place, variables[i].name);
+        table_length += put_record(table + table_length, variables[i].kind, variables[i].name, variables[i].value,
+                                   variables[i].length);
+    }
+    uint64_t answer = check_table(table_length);
+    check(nos_number(answer) == NOS_ACCEPTED && nos_value(answer) == VARIABLES, "the table is good");
+    printf("a table of %zu bytes: good, %" PRIu32 " records\n", table_length, nos_value(answer));
+    uint64_t empty = nos_check_table(NULL, 0);
+    check(nos_number(empty) == NOS_ACCEPTED && nos_value(empty) == 0, "NULL with length 0 is a good table");
+    printf("no table: good, %" PRIu32 " records\n", nos_value(empty));
+}
+
+/* One byte damaged, and put right again. The place is that of the record, not of the byte. */
+static void damage_the_table(void)
+{
+    static const struct { size_t at; uint8_t byte; size_t place; } damages[] = {
+        {0, 85, 0}, {24, 83, 23}, {27, 5, 23}, {41, 3, 39}, {76, 0, 73}, {99, '<', 94},
+    };
+    for (size_t i = 0; i < sizeof damages / sizeof damages[0]; i++) {
+        uint8_t was = table[damages[i].at];
+        char how[32];
+        table[damages[i].at] = damages[i].byte;
+        snprintf(how, sizeof how, "%d for %d at %zu", damages[i].byte, was, damages[i].at);
+        expect_bad(table_length, damages[i].place, how);
+        table[damages[i].at] = was;
+    }
+    expect_bad(table_length - 1, 94, "the last byte cut off");
+    size_t more = put_record(table + table_length, NOS_MACRO, "FARM$NAME", "", 0);
+    expect_bad(table_length + more, table_length, "FARM$NAME added");
+    check(nos_number(check_table(table_length)) == NOS_ACCEPTED, "the table is good again");
+}
+
+/* Finds a variable: its record's place, its kind, and its value in the table. */
+static void find(const char *name, size_t which)
+{
+    uint64_t answer = nos_look_up(table, table_length, bytes_of(name), strlen(name));
+    size_t place = nos_place(answer), value = place + 5 + table[place + 3], length = table[place + 4];
+    check(nos_number(answer) == NOS_ACCEPTED && nos_counted(answer) == NOS_IN_THE_TABLE, name);
+    check(place == variables[which].place && nos_value(answer) == variables[which].kind, name);
+    check(length == variables[which].length && memcmp(table + value, variables[which].value, length) == 0, name);
+    printf("%s: %s at %zu, ", name, kinds[nos_value(answer)], place);
+    print_bytes(table + value, length);
+    putchar('\n');
+}
+
+static void look_up(void)
+{
+    find("Farm$Name", 0);
+    find("FARM$NAME", 0);
+    find("bALANCE", 1);
+    find("heading", 2);
+    uint64_t unknown = nos_look_up(table, table_length, bytes_of("Nobody"), 6);
+    check(unknown == (NOS_UNKNOWN_NAME | NOS_IN_THE_TABLE << 8), "Nobody is unknown, with the place 0 in the table");
+    check(nos_look_up(table, table_length, NULL, 0) == unknown, "so is NULL with length 0");
+    check(nos_look_up(NULL, 0, NULL, 0) == unknown, "also in NULL with length 0");
+    printf("Nobody: refused %" PRIu32 ", %s\n", nos_number(unknown), in_words(unknown));
+    table[40] = 0;
+    uint64_t bad = nos_look_up(table, table_length, bytes_of("Balance"), 7);
+    table[40] = 82;
+    check(nos_number(bad) == NOS_BAD_TABLE && nos_place(bad) == 39, "the whole table is checked before the name is looked for");
+    printf("Balance, a later record being bad: refused %" PRIu32 " at %zu, %s\n", nos_number(bad), nos_place(bad), in_words(bad));
+}
+
+struct asked {
+    const uint8_t *text;
+    size_t length;
+    const uint8_t *table;
+    size_t table_length;
+    uint32_t flags, allowance;
+};
+
+static struct asked of_the_table(const char *text, uint32_t flags, uint32_t allowance)
+{
+    return (struct asked){bytes_of(text), strlen(text), table, table_length, flags, allowance};
+}
+
+/* Translates into the part of a paper that starts at `at`, and checks what holds of every call: no more than the need is written, a
+ * refusal writes nothing, and every other byte of the paper is as it was. */
+static uint64_t translate(struct asked a, uint8_t *paper, size_t size, size_t at, size_t room)
+{
+    remember(paper, size);
+    uint64_t answer = nos_translate(a.text, a.length, a.table, a.table_length, a.flags, a.allowance, paper + at, room);
+    uint32_t number = nos_number(answer);
+    size_t need = nos_need(answer), written = number == NOS_ACCEPTED ? need : 0;
+    check(written <= room, "no more is written than was lent");
+    check(number == NOS_ACCEPTED || (number == NOS_NO_ROOM ? need > room : need == 0), "a need is over the room; others have none");
+    if (nos_counted(answer) == NOS_IN_THE_TEXT)
+        check(nos_place(answer) <= a.length && number != NOS_BAD_TABLE, "the place is in the text");
+    else
+        check(number == NOS_BAD_TABLE || number == NOS_OVER_LENGTH, "only 13 and 18 have places in the table");
+    check_the_rest(paper, size, at, written);
+    return answer;
+}
+
+static uint64_t on_a_clean_slip(struct asked a, size_t room)
+{
+    fill(slip, sizeof slip);
+    return translate(a, slip, sizeof slip, MARGIN, room);
+}
+
+/* Asks with one byte too few, again with the need that the refusal carries, and with more room than that. */
+static void ask_twice(struct asked a, const char *how, const char *given, size_t length, size_t end)
+{
+    size_t little = length - 1;
+    uint64_t refused = on_a_clean_slip(a, little);
+    check(nos_number(refused) == NOS_NO_ROOM && nos_need(refused) == length, "one byte too few is refused, with the need");
+    check(nos_place(refused) == 0, "no room has the place 0");
+    uint64_t more = on_a_clean_slip(a, SLIP), answer = on_a_clean_slip(a, nos_need(refused));
+    check(nos_number(answer) == NOS_ACCEPTED && nos_need(answer) == length && more == answer, "the need is enough");
+    check(nos_place(answer) == end, "the text's end");
+    check(memcmp(slip + MARGIN, given, length) == 0, given);
+    print_bytes(a.text, a.length);
+    printf("%s: room %zu, refused %" PRIu32 ", need %zu, no byte changed; room %zu: ", how, little, nos_number(refused),
+           nos_need(refused), nos_need(refused));
+    print_bytes(slip + MARGIN, nos_need(answer));
+    printf(", read up to %zu\n", nos_place(answer));
+}
+
+static void translations(void)
+{
+    static const struct { const char *text, *how; uint32_t flags, allowance; const char *given; size_t length, end; } lines[] = {
+        {"<Farm$Name>", "", 0, 1, "Lower Ash", 9, 11},
+        {"  <FARM$NAME> <balance> ", "", 0, 2, "Lower Ash -1250 ", 16, 24},
+        {"<heading>", "", 0, 3, "Lower Ash: -1250", 16, 9},
+        {"<&41><321><2_1000001>", "", 0, 0, "AAA", 3, 21},
+        {"|Jrow|?|!|@|!a||", "", 0, 0, "\nrow\x7F\x80\xE1|", 8, 16},
+        {"\"\"\"Ash\"\"\"  ", "", 0, 0, "\"Ash\"", 5, 11},
+        {"\"|\"<Balance>\"\" |?\"", "", 0, 1, "\"-1250\" \x7F", 9, 18},
+        {"row\n<not read", "", 0, 0, "row", 3, 3},
+        {"\"a b\" c", " (a space ends)", NOS_SPACE_ENDS, 0, "a b", 3, 5},
+        {" a b", " (a space ends)", NOS_SPACE_ENDS, 0, "a", 1, 2},
+        {"|<65>", " (bars plain)", NOS_BAR_PLAIN, 0, "|A", 2, 5},
+        {"\"a b\" c", " (quotes plain)", NOS_QUOTE_PLAIN, 0, "\"a b\" c", 7, 7},
+        {"|<65> a", " (all other bits)", 0x1FFFFFFF, 0, "<65> a", 6, 7},
+    };
+    for (size_t i = 0; i < sizeof lines / sizeof lines[0]; i++)
+        ask_twice(of_the_table(lines[i].text, lines[i].flags, lines[i].allowance), lines[i].how, lines[i].given, lines[i].length,
+                  lines[i].end);
+}
+
+/* NULL pointers that no one follows. */
+static void of_nothing(void)
+{
+    uint64_t nothing = nos_translate(NULL, 0, NULL, 0, 0, 0, NULL, 0);
+    check(nothing == NOS_ACCEPTED, "no text is accepted, with the need 0 and the end 0");
+    printf("no text, no table, no buffer: accepted, need %zu\n", nos_need(nothing));
+    uint64_t refused = nos_translate(bytes_of("<Heading>"), 9, table, table_length, 0, 3, NULL, 0);
+    check(nos_number(refused) == NOS_NO_ROOM && nos_need(refused) == 16, "no buffer is refused, with the need");
+    printf("<Heading>, no buffer: refused %" PRIu32 ", %s, need %zu\n", nos_number(refused), in_words(refused), nos_need(refused));
+    uint64_t unknown = nos_translate(bytes_of("<Heading>"), 9, NULL, 0, 0, 3, NULL, 0);
+    check(nos_number(unknown) == NOS_UNKNOWN_NAME && nos_need(unknown) == 0, "in no table every name is unknown");
+    printf("<Heading>, no table: refused %" PRIu32 " at %zu, %s\n", nos_number(unknown), nos_place(unknown), in_words(unknown));
+}
+
+/* Refused at every room alike: the room is looked at last. */
+static void expect_refused(struct asked a, const char *what, uint32_t number, uint32_t counted, size_t place)
+{
+    uint64_t answer = on_a_clean_slip(a, SLIP);
+    check(nos_number(answer) == number && nos_counted(answer) == counted && nos_place(answer) == place, what);
+    check(on_a_clean_slip(a, 0) == answer, "with room 0 it is the same refusal");
+    printf("%s: refused %" PRIu32 " at %zu%s, %s, no byte changed\n", what, nos_number(answer), nos_place(answer),
+           nos_counted(answer) == NOS_IN_THE_TABLE ? " in the table" : "", in_words(answer));
+}
+
+static void refusals(void)
+{
+    static const struct { const char *text; uint32_t allowance, number; size_t place; } lines[] = {
+        {"a<", 9, NOS_BAD_REFERENCE, 1},
+        {"row <>", 9, NOS_BAD_REFERENCE, 4},
+        {"<4294967296>", 9, NOS_TOO_BIG, 0},
+        {"see <Nobody> <", 9, NOS_UNKNOWN_NAME, 4},
+        {"see <Owner>", 9, NOS_UNKNOWN_NAME, 4}, /* Nobody stands in the macro; the place is that of <Owner> */
+        {"-<Again>", 16, NOS_TOO_DEEP, 1},
+        {"-<Again>", 15, NOS_ALLOWANCE_SPENT, 1},
+        {"96 <Balance>", 0, NOS_ALLOWANCE_SPENT, 3},
+        {"96 <Nobody>", 0, NOS_UNKNOWN_NAME, 3},
+        {"=<Heading>", 2, NOS_ALLOWANCE_SPENT, 1},
+        {"a||b|1", 9, NOS_BAD_CODE, 4},
+        {"a|!|!b", 9, NOS_BAD_CODE, 1},
+        {" \"Ash", 9, NOS_BAD_STRING, 1},
+        {"\"Ash\"  b", 9, NOS_BAD_STRING, 7},
+    };
+    for (size_t i = 0; i < sizeof lines / sizeof lines[0]; i++) {
+        char what[48];
+        snprintf(what, sizeof what, "%s (allowance %" PRIu32 ")", lines[i].text, lines[i].allowance);
+        expect_refused(of_the_table(lines[i].text, 0, lines[i].allowance), what, lines[i].number, NOS_IN_THE_TEXT, lines[i].place);
+    }
+    table[24] = 83;
+    expect_refused(of_the_table("<", 0, 0), "< over a damaged table", NOS_BAD_TABLE, NOS_IN_THE_TABLE, 23);
+    struct asked a = {longest, sizeof longest, table, table_length, 0, 0};
+    expect_refused(a, "65536 bytes of text over it", NOS_OVER_LENGTH, NOS_IN_THE_TEXT, 0);
+    table[24] = 82;
+    a = (struct asked){bytes_of("<"), 1, longest, sizeof longest, 0, 0};
+    expect_refused(a, "< over 65536 bytes of table", NOS_OVER_LENGTH, NOS_IN_THE_TABLE, 0);
+}
+
+/* The longest text with all look-ups that there are, each giving the longest value. */
+static void the_largest(void)
+{
+    static uint8_t value[255], wide[5 + 1 + 255];
+    memset(value, 'v', sizeof value);
+    put_record(wide, NOS_STRING, "a", value, sizeof value);
+    memset(longest, 'x', sizeof longest);
+    for (size_t i = 0; i < 1024; i++) memcpy(longest + 3 * i, "<a>", 3);
+    struct asked a = {longest, NOS_LONGEST, wide, sizeof wide, 0, NOS_NO_LIMIT};
+    fill(diary, sizeof diary);
+    uint64_t refused = translate(a, diary, sizeof diary, MARGIN, MOST - 1);
+    check(nos_number(refused) == NOS_NO_ROOM && nos_need(refused) == MOST, "one byte too few is refused, with the need");
+    uint64_t answer = translate(a, diary, sizeof diary, MARGIN, nos_need(refused));
+    check(nos_number(answer) == NOS_ACCEPTED && nos_need(answer) == MOST && nos_place(answer) == NOS_LONGEST, "the need is enough");
+    for (size_t i = 0; i < MOST; i++) check(diary[MARGIN + i] == (i < 1024 * 255 ? 'v' : 'x'), "every byte is there");
+    printf("1024 look-ups in %u bytes: room %d, refused %" PRIu32 ", need %zu, no byte changed; room %zu: all there\n", NOS_LONGEST,
+           MOST - 1, nos_number(refused), nos_need(refused), nos_need(refused));
+    memcpy(longest + 3 * 1024, "<a>", 3);
+    expect_refused(a, "1025 look-ups (allowance 4294967295)", NOS_ALLOWANCE_SPENT, NOS_IN_THE_TEXT, 3 * 1024);
+}
+
+void headings(void)
+{
+    build_the_table();
+    damage_the_table();
+    look_up();
+    translations();
+    of_nothing();
+    refusals();
+    the_largest();
+}
