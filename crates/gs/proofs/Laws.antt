@@ -16,7 +16,7 @@ use Rattle.gs.specs.declared.symbols.Mode.the-variants.{Plain, Quoted}
 use Rattle.gs.specs.declared.symbols.Symbol.{Symbol}
 use Rattle.gs.specs.declared.symbols.Symbol.the-variants.{End, Byte}
 use Rattle.gs.specs.Flags.{spaceEnds}
-use Rattle.gs.specs.SymbolSteps.{unmarked, atEnd, other}
+use Rattle.gs.specs.SymbolSteps.{unmarked, atEnd, other, Ordinary}
 use Rattle.gs.specs.Symbols.{ends, punctuation, code, endingSpace, nameRun, active, plainSymbol, quotedOther, symbolAt}
 
 -- a name's byte stands inside the text
@@ -57,15 +57,6 @@ pub symbol-tested : (text : List ℕ) (flags : ℕ) (mode : Mode) (at : ℕ) →
 unfolding symbolAt
 symbol-tested text flags Plain at = either-test (ends (getD text at 0)) (endingSpace flags Plain (getD text at 0)) _ _
 symbol-tested text flags (Quoted quote) at = refl
-
--- a byte that stands for itself in every text, unless it is a space that ends the text
-pub record Ordinary (c : ℕ) : Type 0 where
-  pub no-zero : c ≡ 0 → ⊥
-  pub no-line : c ≡ 10 → ⊥
-  pub no-return : c ≡ 13 → ⊥
-  pub no-quote : c ≡ 34 → ⊥
-  pub no-reference : c ≡ 60 → ⊥
-  pub no-bar : c ≡ 124 → ⊥
 
 module _ (text : List ℕ) (flags at : ℕ) where
   other-byte : (mode : Mode) → (getD text at 0 ≡ 34 → ⊥) → other text flags mode at ≡ plainSymbol (getD text at 0) at

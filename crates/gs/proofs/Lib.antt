@@ -3,6 +3,7 @@ pub mod Laws
 pub mod Places
 pub mod Pieces
 pub mod Walk
+pub mod PlainRuns
 pub mod Follows
 pub mod Fills
 pub mod Limits

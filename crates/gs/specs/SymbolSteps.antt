@@ -1,9 +1,10 @@
 -- What inner functions give. No public contract cites this page.
+use mathlib.Core.Path.{_≡_}
 use mathlib.Core.Bool.{Bool, cond, not, _&&_, _||_}
 use mathlib.Core.List.{List}
-use Prim.Native.Nat.{ℕ}
+use Prim.Native.Nat.{ℕ, _≤_, _<_}
 use lib.Dec.{ltb, eqb}
-use lib.ListN.{getD}
+use lib.ListN.{length, getD}
 use Rattle.paper.specs.declared.faults.Fault.the-variants.{BadString}
 use Rattle.gs.specs.Flags.{has}
 use Rattle.gs.specs.Symbols.{ends, bad, endingSpace, plainSymbol, quotedOther}
@@ -41,3 +42,27 @@ atEnd (Quoted quote) at = bad BadString (quote .0)
 abbrev pub other : List ℕ → ℕ → Mode → ℕ → Symbol
 other text flags Plain at = plainSymbol (getD text at 0) at
 other text flags (Quoted quote) at = quotedOther text flags at
+
+-- a byte that stands for itself in every text, unless it is a space that ends the text
+pub record Ordinary (c : ℕ) : Type 0 where
+  pub no-zero : c ≡ 0 → ⊥
+  pub no-line : c ≡ 10 → ⊥
+  pub no-return : c ≡ 13 → ⊥
+  pub no-quote : c ≡ 34 → ⊥
+  pub no-reference : c ≡ 60 → ⊥
+  pub no-bar : c ≡ 124 → ⊥
+
+-- such a byte that is not another one either
+pub record PlainByte (also c : ℕ) : Type 0 where
+  pub ordinary : Ordinary c
+  pub no-other : c ≡ also → ⊥
+
+-- a run of such bytes, from a place up to another
+pub record Stretch (also : ℕ) (text : List ℕ) (start stop : ℕ) : Type 0 where
+  pub forward : start ≤ stop
+  pub inside : stop ≤ length text
+  pub plain : (k : ℕ) → start ≤ k → k < stop → PlainByte also (getD text k 0)
+
+-- the byte that ends a run where spaces end the text; the zero, which ends every run, stands for none
+abbrev pub alsoEnds : Bool → ℕ
+alsoEnds spacesEnd = cond spacesEnd 32 0

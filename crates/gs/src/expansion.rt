@@ -7,9 +7,11 @@ ghost use Rattle.gs.specs.Readings.{whole, expands};
 ghost use Rattle.gs.specs.Translations.{namesOf};
 ghost use Rattle.gs.specs.Steps.{Came, Read, pieceOf, lengthIn, behindAt};
 ghost use Rattle.gs.specs.declared.expansion.Progress.the-variants as Progress;
+use crate::bytes::is_ending_space;
 use crate::flags::Flags;
 use crate::output;
 use crate::references;
+use crate::runs;
 use crate::symbols;
 use crate::symbols::Symbol;
 use paper::ALLOWANCE_SPENT;
@@ -120,7 +122,13 @@ pub(crate) fn expand(
     let mut here = first.at;
     let mut to = at;
     let mut rest = left;
+    let spaces_end = is_ending_space(flags, mode, b' ');
     loop {
+        // Bytes that stand for themselves go over as one run; the symbol behind them is the next that needs a thought.
+        let run_end = runs::plain_end(text, here, spaces_end);
+        output::copy(&text[here..run_end], to, out);
+        to += run_end - here;
+        here = run_end;
         let symbol = symbols::symbol_at(text, flags, mode, here);
         match symbol {
             Symbol::End(end) => {

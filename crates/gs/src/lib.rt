@@ -11,6 +11,7 @@ pub mod expansion;
 pub mod flags;
 mod output;
 mod references;
+mod runs;
 pub mod symbols;
 
 use expansion::Expanded;

@@ -11,8 +11,10 @@ use Rattle.gs.specs.Translations.{namesOf}
 use Rattle.gs.specs.Steps.{Laid, Came, went, halted, Read, pieceOf, lengthIn, referredIn, behindAt, partOf}
 use Rattle.variables.specs.declared.Variable.{Variable}
 use Rattle.gs.proofs.Pieces.{value-small}
+use Rattle.gs.proofs.PlainRuns.{at-run}
 use Rattle.gs.proofs.Places.{Stands, symbol-stands}
 use Rattle.gs.proofs.Follows.{number-gives, too-big-gives, unknown-gives, text-gives, integer-gives, too-deep-gives, spent-gives, value-gives}
+use Rattle.gs.specs.declared.symbols.Mode.{Mode}
 use Rattle.gs.specs.declared.symbols.Symbol.{Symbol}
 use Rattle.gs.specs.declared.expansion.Expanded.the-variants.{Halted}
 use Rattle.gs.proofs.Walk.{Walk, start, at-end, at-bad, at-byte, at-reference, at-stop, came-through, came-stopped}
@@ -28,6 +30,9 @@ use Rattle.gs.proofs.expansion.+expand+follow.Lts-follow as follow-lts
 use Rattle.gs.proofs.expansion.behind.Reads as behind-reads
 use Rattle.gs.proofs.expansion.stop.Reads as stop-reads
 use Rattle.gs.proofs.flags.Flags.none.Reads as none-reads
+use Rattle.gs.proofs.bytes.is_ending_space.Reads as is-ending-space-reads
+use Rattle.gs.proofs.runs.plain_end.Reads as plain-end-reads
+use Rattle.gs.proofs.output.copy.Reads as copy-reads
 use Rattle.gs.proofs.output.put.Reads as put-reads
 use Rattle.gs.proofs.references.give.Reads as give-reads
 use Rattle.gs.proofs.references.give_integer.Reads as give-integer-reads
@@ -58,15 +63,23 @@ abbrev follow-below : ℕ → In 2 follow-kinds.ps
 follow-below t = and 2 follow-kinds.ps (falls 2 follow-kinds.ps _<_ μ-follow t) follow.Pre
 
 abbrev expand-Inv-loop : expand-lts.InvT-loop
-expand-Inv-loop text table flags levels left at out₀ mode here₀ to₀ rest₀ out here to rest =
+expand-Inv-loop text table flags levels left at out₀ mode here₀ to₀ rest₀ spaces-end out here to rest =
     Walk (namesOf table) (expands (namesOf table) levels) text (flags .0) left at out₀ mode out here to rest
 
 abbrev expand-μ-loop : expand-lts.MeasureT-loop
-expand-μ-loop text table flags levels left at out₀ mode here₀ to₀ rest₀ out here to rest = length text + 1 - here
+expand-μ-loop text table flags levels left at out₀ mode here₀ to₀ rest₀ spaces-end out here to rest = length text + 1 - here
 
-expand-open-requires : (t : ℕ) → expand-lts.Need-open-requires (
+-- what the functions that it calls ask and tell
+abbrev expand-calls : ℕ → expand-lts.Claims
+expand-calls t = (
   open-reads.Asked,
   open-reads.Learnt,
+  is-ending-space-reads.Asked,
+  is-ending-space-reads.Learnt,
+  plain-end-reads.Asked,
+  plain-end-reads.Learnt,
+  copy-reads.Asked,
+  copy-reads.Learnt,
   symbol-at-reads.Asked,
   symbol-at-reads.Learnt,
   number-reads.Asked,
@@ -77,520 +90,239 @@ expand-open-requires : (t : ℕ) → expand-lts.Need-open-requires (
   resolve-reads.Learnt,
   follow-below t,
   follow.Post,
-) (expand-at t) expand.Post expand-Inv-loop expand-μ-loop
+)
+
+expand-open-requires : (t : ℕ) → expand-lts.Need-open-requires (expand-calls t) (expand-at t) expand.Post expand-Inv-loop expand-μ-loop
 expand-open-requires t c κs = search needs
 
-expand-loop-holds : (t : ℕ) → expand-lts.Need-loop-holds (
-  open-reads.Asked,
-  open-reads.Learnt,
-  symbol-at-reads.Asked,
-  symbol-at-reads.Learnt,
-  number-reads.Asked,
-  number-reads.Learnt,
-  put-reads.Asked,
-  put-reads.Learnt,
-  resolve-reads.Asked,
-  resolve-reads.Learnt,
-  follow-below t,
-  follow.Post,
-) (expand-at t) expand.Post expand-Inv-loop expand-μ-loop
+expand-is-ending-space-requires : (t : ℕ) → expand-lts.Need-is-ending-space-requires (expand-calls t) (expand-at t) expand.Post expand-Inv-loop expand-μ-loop
+expand-is-ending-space-requires t c κs = search needs
+
+expand-loop-holds : (t : ℕ) → expand-lts.Need-loop-holds (expand-calls t) (expand-at t) expand.Post expand-Inv-loop expand-μ-loop
 expand-loop-holds t c =
-    let a = c .before .before .before .before .args in
+    let a = c .before .before .before .before .before .args in
     let names = namesOf (a .table .now) in
-    start names (expands names (a .levels)) (a .text .now) (a .flags .0) (a .left) (a .at) (a .out .now) (c .open .result .mode)
-    (c .open .result) (c .open .ensures) refl
+    start names (expands names (a .levels)) (a .text .now) (a .flags .0) (a .left) (a .at) (a .out .now) (c .before .open .result .mode)
+    (c .before .open .result) (c .before .open .ensures) refl
 
-expand-symbol-at-requires : (t : ℕ) → expand-lts.Need-symbol-at-requires (
-  open-reads.Asked,
-  open-reads.Learnt,
-  symbol-at-reads.Asked,
-  symbol-at-reads.Learnt,
-  number-reads.Asked,
-  number-reads.Learnt,
-  put-reads.Asked,
-  put-reads.Learnt,
-  resolve-reads.Asked,
-  resolve-reads.Learnt,
-  follow-below t,
-  follow.Post,
-) (expand-at t) expand.Post expand-Inv-loop expand-μ-loop
-expand-symbol-at-requires t c κs = c .loop .inv .inside
+expand-plain-end-requires : (t : ℕ) → expand-lts.Need-plain-end-requires (expand-calls t) (expand-at t) expand.Post expand-Inv-loop expand-μ-loop
+expand-plain-end-requires t c κs = c .loop .inv .inside
 
--- where the symbol at hand stands
-expand-stands : (t : ℕ) (c : expand-lts.After-symbol-at (
-  open-reads.Asked,
-  open-reads.Learnt,
-  symbol-at-reads.Asked,
-  symbol-at-reads.Learnt,
-  number-reads.Asked,
-  number-reads.Learnt,
-  put-reads.Asked,
-  put-reads.Learnt,
-  resolve-reads.Asked,
-  resolve-reads.Learnt,
-  follow-below t,
-  follow.Post,
-) (expand-at t) expand.Post expand-Inv-loop expand-μ-loop) (s : Symbol) → c .symbol-at .result ≡ s
-    → Stands (length (c .before .before .before .before .before .before .args .text .now)) (c .before .loop .here) s
-expand-stands t c s e =
-    let a = c .before .before .before .before .before .before .args in
-    symbol-stands (a .text .now) (a .flags .0) (c .before .before .open .result .mode) (c .before .loop .here)
-    (λ k. omega (arith, c .before .before .before .before .before .shared-slice-known .given k)) (c .before .loop .inv .inside) (c .before .loop .inv .quote)
-    (sym (c .symbol-at .ensures) ∙ e)
+expand-sub-copy : (t : ℕ) → expand-lts.Need-sub-copy (expand-calls t) (expand-at t) expand.Post expand-Inv-loop expand-μ-loop
+expand-sub-copy t c = omega (arith, c .plain-end .ensures .forward, c .plain-end .ensures .inside)
 
-expand-enum-known-symbol : (t : ℕ) → expand-lts.Need-enum-known-symbol (
-  open-reads.Asked,
-  open-reads.Learnt,
-  symbol-at-reads.Asked,
-  symbol-at-reads.Learnt,
-  number-reads.Asked,
-  number-reads.Learnt,
-  put-reads.Asked,
-  put-reads.Learnt,
-  resolve-reads.Asked,
-  resolve-reads.Learnt,
-  follow-below t,
-  follow.Post,
-) (expand-at t) expand.Post expand-Inv-loop expand-μ-loop
+expand-part-copy-start : (t : ℕ) → expand-lts.Need-part-copy-start (expand-calls t) (expand-at t) expand.Post expand-Inv-loop expand-μ-loop
+expand-part-copy-start t c = omega (arith, c .plain-end .ensures .forward, c .plain-end .ensures .inside)
+
+expand-part-copy-end : (t : ℕ) → expand-lts.Need-part-copy-end (expand-calls t) (expand-at t) expand.Post expand-Inv-loop expand-μ-loop
+expand-part-copy-end t c = omega (arith, c .plain-end .ensures .forward, c .plain-end .ensures .inside)
+
+expand-copy-requires : (t : ℕ) → expand-lts.Need-copy-requires (expand-calls t) (expand-at t) expand.Post expand-Inv-loop expand-μ-loop
+expand-copy-requires t c κs = search needs
+
+expand-sub-to : (t : ℕ) → expand-lts.Need-sub-to (expand-calls t) (expand-at t) expand.Post expand-Inv-loop expand-μ-loop
+expand-sub-to t c = omega (arith, c .before .before .before .before .before .plain-end .ensures .forward)
+
+expand-add-to : (t : ℕ) → expand-lts.Need-add-to (expand-calls t) (expand-at t) expand.Post expand-Inv-loop expand-μ-loop
+expand-add-to t c =
+    let run = c .before .before .before .before .before .plain-end .ensures in
+    let w = c .before .before .before .before .before .before .loop .inv in
+    omega (arith, c .before .before .before .before .before .before .before .before .before .before .before .before .pre .1, w .place, w .small, run .forward, run .inside)
+
+expand-symbol-at-requires : (t : ℕ) → expand-lts.Need-symbol-at-requires (expand-calls t) (expand-at t) expand.Post expand-Inv-loop expand-μ-loop
+expand-symbol-at-requires t c κs = c .before .before .before .before .before .plain-end .ensures .inside
+
+-- where the symbol at hand is known, behind a run of plain bytes
+module _ (t : ℕ) (c : expand-lts.After-symbol-at (expand-calls t) (expand-at t) expand.Post expand-Inv-loop expand-μ-loop) where
+  abbrev expand-passed : expand-lts.After-plain-end (expand-calls t) (expand-at t) expand.Post expand-Inv-loop expand-μ-loop
+  expand-passed = c .before .before .before .before .before .before
+
+  abbrev expand-turn : expand-lts.At-loop (expand-calls t) (expand-at t) expand.Post expand-Inv-loop expand-μ-loop
+  expand-turn = expand-passed .before
+
+  abbrev expand-begun : expand-lts.Start (expand-calls t) (expand-at t) expand.Post expand-Inv-loop expand-μ-loop
+  expand-begun = expand-turn .before .before .before .before .before .before
+
+  abbrev expand-here : ℕ
+  expand-here = expand-passed .plain-end .result
+
+  abbrev expand-to : ℕ
+  expand-to = expand-turn .loop .to + (expand-here - expand-turn .loop .here)
+
+  abbrev expand-out : List ℕ
+  expand-out = c .before .before .before .copy .last .1 .1 .0
+
+  abbrev expand-text : List ℕ
+  expand-text = expand-begun .args .text .now
+
+  abbrev expand-mode : Mode
+  expand-mode = c .before .before .before .before .before .before .before .before .before .open .result .mode
+
+  expand-walk :
+      let a = expand-begun .args in
+      Walk (namesOf (a .table .now)) (expands (namesOf (a .table .now)) (a .levels)) expand-text (a .flags .0) (a .left) (a .at) (a .out .now) expand-mode
+      expand-out expand-here expand-to (expand-turn .loop .rest)
+  expand-walk =
+      let a = expand-begun .args in
+      let names = namesOf (a .table .now) in
+      let l = expand-turn .loop in
+      at-run names (expands names (a .levels)) expand-text (a .flags .0) (a .left) (a .at) (a .out .now) expand-mode (l .out) expand-out (l .here) (l .to) (l .rest)
+      expand-here _ (l .inv) (c .before .before .before .before .before .before .before .before .is-ending-space .ensures) (expand-passed .plain-end .ensures) (c .before .before .before .copy .ensures)
+
+  -- where it stands
+  expand-stands : (s : Symbol) → c .symbol-at .result ≡ s → Stands (length expand-text) expand-here s
+  expand-stands s e =
+      symbol-stands expand-text (expand-begun .args .flags .0) expand-mode expand-here
+      (λ k. omega (arith, c .before .before .before .before .before .before .before .before .before .before .before .before .shared-slice-known .given k)) (expand-passed .plain-end .ensures .inside) (expand-turn .loop .inv .quote)
+      (sym (c .symbol-at .ensures) ∙ e)
+
+expand-enum-known-symbol : (t : ℕ) → expand-lts.Need-enum-known-symbol (expand-calls t) (expand-at t) expand.Post expand-Inv-loop expand-μ-loop
 expand-enum-known-symbol t c = search needs
 
-expand-same-length : (t : ℕ) → expand-lts.Need-same-length (
-  open-reads.Asked,
-  open-reads.Learnt,
-  symbol-at-reads.Asked,
-  symbol-at-reads.Learnt,
-  number-reads.Asked,
-  number-reads.Learnt,
-  put-reads.Asked,
-  put-reads.Learnt,
-  resolve-reads.Asked,
-  resolve-reads.Learnt,
-  follow-below t,
-  follow.Post,
-) (expand-at t) expand.Post expand-Inv-loop expand-μ-loop
+expand-same-length : (t : ℕ) → expand-lts.Need-same-length (expand-calls t) (expand-at t) expand.Post expand-Inv-loop expand-μ-loop
 expand-same-length t c = search needs
 
-expand-returns : (t : ℕ) → expand-lts.Need-returns (
-  open-reads.Asked,
-  open-reads.Learnt,
-  symbol-at-reads.Asked,
-  symbol-at-reads.Learnt,
-  number-reads.Asked,
-  number-reads.Learnt,
-  put-reads.Asked,
-  put-reads.Learnt,
-  resolve-reads.Asked,
-  resolve-reads.Learnt,
-  follow-below t,
-  follow.Post,
-) (expand-at t) expand.Post expand-Inv-loop expand-μ-loop
+expand-returns : (t : ℕ) → expand-lts.Need-returns (expand-calls t) (expand-at t) expand.Post expand-Inv-loop expand-μ-loop
 expand-returns t c =
-    let a = c .before .before .before .before .before .before .before .before .before .args in
+    let s = c .before .before .before in
+    let a = expand-begun t s .args in
     let names = namesOf (a .table .now) in
-    let l = c .before .before .before .before .loop in
-    let mode = c .before .before .before .before .before .open .result .mode in
-    at-end names (expands names (a .levels)) (a .text .now) (a .flags .0) (a .left) (a .at) (a .out .now) mode (l .out) (l .here) (l .to) (l .rest)
-    (c .before .symbol .given .0 .0) (l .inv) (sym (c .before .before .before .symbol-at .ensures) ∙ c .before .symbol .given .1)
+    let rest = expand-turn t s .loop .rest in
+    at-end names (expands names (a .levels)) (expand-text t s) (a .flags .0) (a .left) (a .at) (a .out .now) (expand-mode t s) (expand-out t s) (expand-here t s) (expand-to t s) rest
+    (c .before .symbol .given .0 .0) (expand-walk t s) (sym (s .symbol-at .ensures) ∙ c .before .symbol .given .1)
 
-expand-enum-known-symbol-2 : (t : ℕ) → expand-lts.Need-enum-known-symbol-2 (
-  open-reads.Asked,
-  open-reads.Learnt,
-  symbol-at-reads.Asked,
-  symbol-at-reads.Learnt,
-  number-reads.Asked,
-  number-reads.Learnt,
-  put-reads.Asked,
-  put-reads.Learnt,
-  resolve-reads.Asked,
-  resolve-reads.Learnt,
-  follow-below t,
-  follow.Post,
-) (expand-at t) expand.Post expand-Inv-loop expand-μ-loop
+expand-enum-known-symbol-2 : (t : ℕ) → expand-lts.Need-enum-known-symbol-2 (expand-calls t) (expand-at t) expand.Post expand-Inv-loop expand-μ-loop
 expand-enum-known-symbol-2 t c = search needs
 
-expand-number-requires : (t : ℕ) → expand-lts.Need-number-requires (
-  open-reads.Asked,
-  open-reads.Learnt,
-  symbol-at-reads.Asked,
-  symbol-at-reads.Learnt,
-  number-reads.Asked,
-  number-reads.Learnt,
-  put-reads.Asked,
-  put-reads.Learnt,
-  resolve-reads.Asked,
-  resolve-reads.Learnt,
-  follow-below t,
-  follow.Post,
-) (expand-at t) expand.Post expand-Inv-loop expand-μ-loop
+expand-number-requires : (t : ℕ) → expand-lts.Need-number-requires (expand-calls t) (expand-at t) expand.Post expand-Inv-loop expand-μ-loop
 expand-number-requires t c κs = search needs
 
-expand-same-length-2 : (t : ℕ) → expand-lts.Need-same-length-2 (
-  open-reads.Asked,
-  open-reads.Learnt,
-  symbol-at-reads.Asked,
-  symbol-at-reads.Learnt,
-  number-reads.Asked,
-  number-reads.Learnt,
-  put-reads.Asked,
-  put-reads.Learnt,
-  resolve-reads.Asked,
-  resolve-reads.Learnt,
-  follow-below t,
-  follow.Post,
-) (expand-at t) expand.Post expand-Inv-loop expand-μ-loop
+expand-same-length-2 : (t : ℕ) → expand-lts.Need-same-length-2 (expand-calls t) (expand-at t) expand.Post expand-Inv-loop expand-μ-loop
 expand-same-length-2 t c = search needs
 
-expand-returns-2 : (t : ℕ) → expand-lts.Need-returns-2 (
-  open-reads.Asked,
-  open-reads.Learnt,
-  symbol-at-reads.Asked,
-  symbol-at-reads.Learnt,
-  number-reads.Asked,
-  number-reads.Learnt,
-  put-reads.Asked,
-  put-reads.Learnt,
-  resolve-reads.Asked,
-  resolve-reads.Learnt,
-  follow-below t,
-  follow.Post,
-) (expand-at t) expand.Post expand-Inv-loop expand-μ-loop
+expand-returns-2 : (t : ℕ) → expand-lts.Need-returns-2 (expand-calls t) (expand-at t) expand.Post expand-Inv-loop expand-μ-loop
 expand-returns-2 t c =
-    let a = c .before .before .before .before .before .before .before .before .before .before .args in
+    let s = c .before .before .before .before in
+    let a = expand-begun t s .args in
     let names = namesOf (a .table .now) in
-    let l = c .before .before .before .before .before .loop in
-    let mode = c .before .before .before .before .before .before .open .result .mode in
+    let rest = expand-turn t s .loop .rest in
     let bad = c .before .before .symbol2 .given in
-    subst (λ n. Read (whole names (expands names (a .levels)) (a .text .now) (a .flags .0)) (length (a .text .now)) (a .left) (a .at) (a .out .now) (l .out) (Halted n (bad .0 .1 .0 .0)))
+    subst (λ n. Read (whole names (expands names (a .levels)) (expand-text t s) (a .flags .0)) (length (expand-text t s)) (a .left) (a .at) (a .out .now) (expand-out t s) (Halted n (bad .0 .1 .0 .0)))
     (sym (c .number .ensures))
-    (at-bad names (expands names (a .levels)) (a .text .now) (a .flags .0) (a .left) (a .at) (a .out .now) mode (l .out) (l .here) (l .to) (l .rest)
-    (bad .0 .0) (bad .0 .1 .0) (l .inv) (sym (c .before .before .before .before .symbol-at .ensures) ∙ bad .1))
+    (at-bad names (expands names (a .levels)) (expand-text t s) (a .flags .0) (a .left) (a .at) (a .out .now) (expand-mode t s) (expand-out t s) (expand-here t s) (expand-to t s) rest
+    (bad .0 .0) (bad .0 .1 .0) (expand-walk t s) (sym (s .symbol-at .ensures) ∙ bad .1))
 
-expand-enum-known-symbol-3 : (t : ℕ) → expand-lts.Need-enum-known-symbol-3 (
-  open-reads.Asked,
-  open-reads.Learnt,
-  symbol-at-reads.Asked,
-  symbol-at-reads.Learnt,
-  number-reads.Asked,
-  number-reads.Learnt,
-  put-reads.Asked,
-  put-reads.Learnt,
-  resolve-reads.Asked,
-  resolve-reads.Learnt,
-  follow-below t,
-  follow.Post,
-) (expand-at t) expand.Post expand-Inv-loop expand-μ-loop
+expand-enum-known-symbol-3 : (t : ℕ) → expand-lts.Need-enum-known-symbol-3 (expand-calls t) (expand-at t) expand.Post expand-Inv-loop expand-μ-loop
 expand-enum-known-symbol-3 t c = search needs
 
-expand-put-requires : (t : ℕ) → expand-lts.Need-put-requires (
-  open-reads.Asked,
-  open-reads.Learnt,
-  symbol-at-reads.Asked,
-  symbol-at-reads.Learnt,
-  number-reads.Asked,
-  number-reads.Learnt,
-  put-reads.Asked,
-  put-reads.Learnt,
-  resolve-reads.Asked,
-  resolve-reads.Learnt,
-  follow-below t,
-  follow.Post,
-) (expand-at t) expand.Post expand-Inv-loop expand-μ-loop
+expand-put-requires : (t : ℕ) → expand-lts.Need-put-requires (expand-calls t) (expand-at t) expand.Post expand-Inv-loop expand-μ-loop
 expand-put-requires t c κs = search needs
 
-expand-add-to : (t : ℕ) → expand-lts.Need-add-to (
-  open-reads.Asked,
-  open-reads.Learnt,
-  symbol-at-reads.Asked,
-  symbol-at-reads.Learnt,
-  number-reads.Asked,
-  number-reads.Learnt,
-  put-reads.Asked,
-  put-reads.Learnt,
-  resolve-reads.Asked,
-  resolve-reads.Learnt,
-  follow-below t,
-  follow.Post,
-) (expand-at t) expand.Post expand-Inv-loop expand-μ-loop
-expand-add-to t c = search needs
+expand-add-to-2 : (t : ℕ) → expand-lts.Need-add-to-2 (expand-calls t) (expand-at t) expand.Post expand-Inv-loop expand-μ-loop
+expand-add-to-2 t c =
+    let s = c .before .before .before .before .before .before .before in
+    let w = expand-walk t s in
+    omega (arith, expand-begun t s .pre .1, w .place, w .small, w .inside)
 
-expand-loop-less : (t : ℕ) → expand-lts.Need-loop-less (
-  open-reads.Asked,
-  open-reads.Learnt,
-  symbol-at-reads.Asked,
-  symbol-at-reads.Learnt,
-  number-reads.Asked,
-  number-reads.Learnt,
-  put-reads.Asked,
-  put-reads.Learnt,
-  resolve-reads.Asked,
-  resolve-reads.Learnt,
-  follow-below t,
-  follow.Post,
-) (expand-at t) expand.Post expand-Inv-loop expand-μ-loop
+expand-loop-less : (t : ℕ) → expand-lts.Need-loop-less (expand-calls t) (expand-at t) expand.Post expand-Inv-loop expand-μ-loop
 expand-loop-less t c =
-    let s = expand-stands t (c .before .before .before .before .before .before .before) _ (c .before .before .before .before .before .symbol3 .given .1) in
-    omega (arith, s .forward, s .within)
+    let s = c .before .before .before .before .before .before .before in
+    let byte = expand-stands t s _ (c .before .before .before .before .before .symbol3 .given .1) in
+    omega (arith, byte .forward, byte .within, expand-passed t s .plain-end .ensures .forward)
 
-expand-loop-again : (t : ℕ) → expand-lts.Need-loop-again (
-  open-reads.Asked,
-  open-reads.Learnt,
-  symbol-at-reads.Asked,
-  symbol-at-reads.Learnt,
-  number-reads.Asked,
-  number-reads.Learnt,
-  put-reads.Asked,
-  put-reads.Learnt,
-  resolve-reads.Asked,
-  resolve-reads.Learnt,
-  follow-below t,
-  follow.Post,
-) (expand-at t) expand.Post expand-Inv-loop expand-μ-loop
+expand-loop-again : (t : ℕ) → expand-lts.Need-loop-again (expand-calls t) (expand-at t) expand.Post expand-Inv-loop expand-μ-loop
 expand-loop-again t c =
-    let a = c .before .before .before .before .before .before .before .before .before .before .before .before .before .args in
+    let s = c .before .before .before .before .before .before .before in
+    let a = expand-begun t s .args in
     let names = namesOf (a .table .now) in
-    let l = c .before .before .before .before .before .before .before .before .loop in
-    let mode = c .before .before .before .before .before .before .before .before .before .open .result .mode in
+    let rest = expand-turn t s .loop .rest in
     let byte = c .before .before .before .before .before .symbol3 .given in
-    let s = expand-stands t (c .before .before .before .before .before .before .before) _ (byte .1) in
-    at-byte names (expands names (a .levels)) (a .text .now) (a .flags .0) (a .left) (a .at) (a .out .now) mode (l .out) (l .here) (l .to) (l .rest)
-    (byte .0 .0) (byte .0 .1 .0) _ (l .inv) (sym (c .before .before .before .before .before .before .before .symbol-at .ensures) ∙ byte .1) (s .forward) (s .within) (c .before .before .put .ensures)
+    let stands = expand-stands t s _ (byte .1) in
+    at-byte names (expands names (a .levels)) (expand-text t s) (a .flags .0) (a .left) (a .at) (a .out .now) (expand-mode t s) (expand-out t s) (expand-here t s) (expand-to t s) rest
+    (byte .0 .0) (byte .0 .1 .0) _ (expand-walk t s) (sym (s .symbol-at .ensures) ∙ byte .1) (stands .forward) (stands .within) (c .before .before .put .ensures)
 
-expand-enum-known-symbol-4 : (t : ℕ) → expand-lts.Need-enum-known-symbol-4 (
-  open-reads.Asked,
-  open-reads.Learnt,
-  symbol-at-reads.Asked,
-  symbol-at-reads.Learnt,
-  number-reads.Asked,
-  number-reads.Learnt,
-  put-reads.Asked,
-  put-reads.Learnt,
-  resolve-reads.Asked,
-  resolve-reads.Learnt,
-  follow-below t,
-  follow.Post,
-) (expand-at t) expand.Post expand-Inv-loop expand-μ-loop
+expand-enum-known-symbol-4 : (t : ℕ) → expand-lts.Need-enum-known-symbol-4 (expand-calls t) (expand-at t) expand.Post expand-Inv-loop expand-μ-loop
 expand-enum-known-symbol-4 t c = search needs
 
-expand-sub-resolve : (t : ℕ) → expand-lts.Need-sub-resolve (
-  open-reads.Asked,
-  open-reads.Learnt,
-  symbol-at-reads.Asked,
-  symbol-at-reads.Learnt,
-  number-reads.Asked,
-  number-reads.Learnt,
-  put-reads.Asked,
-  put-reads.Learnt,
-  resolve-reads.Asked,
-  resolve-reads.Learnt,
-  follow-below t,
-  follow.Post,
-) (expand-at t) expand.Post expand-Inv-loop expand-μ-loop
+expand-sub-resolve : (t : ℕ) → expand-lts.Need-sub-resolve (expand-calls t) (expand-at t) expand.Post expand-Inv-loop expand-μ-loop
 expand-sub-resolve t c =
-    let s = expand-stands t (c .before .before .before) _ (c .before .symbol4 .given .1) in
-    omega (arith, s .long, s .behind, s .within)
+    let stands = expand-stands t (c .before .before .before) _ (c .before .symbol4 .given .1) in
+    omega (arith, stands .long, stands .behind, stands .within)
 
-expand-part-resolve-start : (t : ℕ) → expand-lts.Need-part-resolve-start (
-  open-reads.Asked,
-  open-reads.Learnt,
-  symbol-at-reads.Asked,
-  symbol-at-reads.Learnt,
-  number-reads.Asked,
-  number-reads.Learnt,
-  put-reads.Asked,
-  put-reads.Learnt,
-  resolve-reads.Asked,
-  resolve-reads.Learnt,
-  follow-below t,
-  follow.Post,
-) (expand-at t) expand.Post expand-Inv-loop expand-μ-loop
+expand-part-resolve-start : (t : ℕ) → expand-lts.Need-part-resolve-start (expand-calls t) (expand-at t) expand.Post expand-Inv-loop expand-μ-loop
 expand-part-resolve-start t c =
-    let s = expand-stands t (c .before .before .before) _ (c .before .symbol4 .given .1) in
-    omega (arith, s .long, s .behind, s .within)
+    let stands = expand-stands t (c .before .before .before) _ (c .before .symbol4 .given .1) in
+    omega (arith, stands .long, stands .behind, stands .within)
 
-expand-part-resolve-end : (t : ℕ) → expand-lts.Need-part-resolve-end (
-  open-reads.Asked,
-  open-reads.Learnt,
-  symbol-at-reads.Asked,
-  symbol-at-reads.Learnt,
-  number-reads.Asked,
-  number-reads.Learnt,
-  put-reads.Asked,
-  put-reads.Learnt,
-  resolve-reads.Asked,
-  resolve-reads.Learnt,
-  follow-below t,
-  follow.Post,
-) (expand-at t) expand.Post expand-Inv-loop expand-μ-loop
+expand-part-resolve-end : (t : ℕ) → expand-lts.Need-part-resolve-end (expand-calls t) (expand-at t) expand.Post expand-Inv-loop expand-μ-loop
 expand-part-resolve-end t c =
-    let s = expand-stands t (c .before .before .before) _ (c .before .symbol4 .given .1) in
-    omega (arith, s .long, s .behind, s .within)
+    let stands = expand-stands t (c .before .before .before) _ (c .before .symbol4 .given .1) in
+    omega (arith, stands .long, stands .behind, stands .within)
 
-expand-resolve-requires : (t : ℕ) → expand-lts.Need-resolve-requires (
-  open-reads.Asked,
-  open-reads.Learnt,
-  symbol-at-reads.Asked,
-  symbol-at-reads.Learnt,
-  number-reads.Asked,
-  number-reads.Learnt,
-  put-reads.Asked,
-  put-reads.Learnt,
-  resolve-reads.Asked,
-  resolve-reads.Learnt,
-  follow-below t,
-  follow.Post,
-) (expand-at t) expand.Post expand-Inv-loop expand-μ-loop
+expand-resolve-requires : (t : ℕ) → expand-lts.Need-resolve-requires (expand-calls t) (expand-at t) expand.Post expand-Inv-loop expand-μ-loop
 expand-resolve-requires t c κs = search needs
 
-expand-follow-requires : (t : ℕ) → expand-lts.Need-follow-requires (
-  open-reads.Asked,
-  open-reads.Learnt,
-  symbol-at-reads.Asked,
-  symbol-at-reads.Learnt,
-  number-reads.Asked,
-  number-reads.Learnt,
-  put-reads.Asked,
-  put-reads.Learnt,
-  resolve-reads.Asked,
-  resolve-reads.Learnt,
-  follow-below t,
-  follow.Post,
-) (expand-at t) expand.Post expand-Inv-loop expand-μ-loop
+expand-follow-requires : (t : ℕ) → expand-lts.Need-follow-requires (expand-calls t) (expand-at t) expand.Post expand-Inv-loop expand-μ-loop
 expand-follow-requires t c κs =
-    let a = c .before .before .before .before .before .before .before .before .before .before .before .before .args in
-    let names = namesOf (a .table .now) in
-    let l = c .before .before .before .before .before .before .before .loop in
-    let mode = c .before .before .before .before .before .before .before .before .open .result .mode in
-    let name = take (c .before .before .before .before .symbol4 .given .0 .1 .0 - c .before .before .before .before .symbol4 .given .0 .0) (drop (c .before .before .before .before .symbol4 .given .0 .0) (a .text .now)) in
-    let small = value-small (a .table .now) (λ k. omega (arith, c .before .before .before .before .before .before .before .before .before .before .shared-slice-known2 .given k)) name in (
-      omega (arith, c .before .before .before .before .before .before .before .before .before .before .before .before .pre .0),
-      (omega (arith, c .before .before .before .before .before .before .before .before .before .before .before .before .pre .1, l .inv .place, l .inv .small, l .inv .inside), subst (λ r. lengthIn r ≤ 255) (sym (c .before .resolve .ensures)) small),
+    let s = c .before .before .before .before .before .before in
+    let a = expand-begun t s .args in
+    let pre = expand-begun t s .pre in
+    let w = expand-walk t s in
+    let r = c .before .before .before .before .symbol4 .given in
+    let name = take (r .0 .1 .0 - r .0 .0) (drop (r .0 .0) (expand-text t s)) in
+    let small = value-small (a .table .now) (λ k. omega (arith, s .before .before .before .before .before .before .before .before .before .before .before .shared-slice-known2 .given k)) name in (
+      omega (arith, pre .0),
+      (omega (arith, pre .1, w .place, w .small, w .inside), subst (λ r. lengthIn r ≤ 255) (sym (c .before .resolve .ensures)) small),
     )
 
-expand-enum-known-came : (t : ℕ) → expand-lts.Need-enum-known-came (
-  open-reads.Asked,
-  open-reads.Learnt,
-  symbol-at-reads.Asked,
-  symbol-at-reads.Learnt,
-  number-reads.Asked,
-  number-reads.Learnt,
-  put-reads.Asked,
-  put-reads.Learnt,
-  resolve-reads.Asked,
-  resolve-reads.Learnt,
-  follow-below t,
-  follow.Post,
-) (expand-at t) expand.Post expand-Inv-loop expand-μ-loop
+expand-enum-known-came : (t : ℕ) → expand-lts.Need-enum-known-came (expand-calls t) (expand-at t) expand.Post expand-Inv-loop expand-μ-loop
 expand-enum-known-came t c = search needs
 
-expand-loop-less-2 : (t : ℕ) → expand-lts.Need-loop-less-2 (
-  open-reads.Asked,
-  open-reads.Learnt,
-  symbol-at-reads.Asked,
-  symbol-at-reads.Learnt,
-  number-reads.Asked,
-  number-reads.Learnt,
-  put-reads.Asked,
-  put-reads.Learnt,
-  resolve-reads.Asked,
-  resolve-reads.Learnt,
-  follow-below t,
-  follow.Post,
-) (expand-at t) expand.Post expand-Inv-loop expand-μ-loop
+expand-loop-less-2 : (t : ℕ) → expand-lts.Need-loop-less-2 (expand-calls t) (expand-at t) expand.Post expand-Inv-loop expand-μ-loop
 expand-loop-less-2 t c =
-    let s = expand-stands t (c .before .before .before .before .before .before .before .before .before .before .before .before) _ (c .before .before .before .before .before .before .before .before .before .before .symbol4 .given .1) in
-    omega (arith, s .begins, s .long, s .behind, s .within)
+    let s = c .before .before .before .before .before .before .before .before .before .before .before .before in
+    let stands = expand-stands t s _ (c .before .before .before .before .before .before .before .before .before .before .symbol4 .given .1) in
+    omega (arith, stands .begins, stands .long, stands .behind, stands .within, expand-passed t s .plain-end .ensures .forward)
 
-expand-loop-again-2 : (t : ℕ) → expand-lts.Need-loop-again-2 (
-  open-reads.Asked,
-  open-reads.Learnt,
-  symbol-at-reads.Asked,
-  symbol-at-reads.Learnt,
-  number-reads.Asked,
-  number-reads.Learnt,
-  put-reads.Asked,
-  put-reads.Learnt,
-  resolve-reads.Asked,
-  resolve-reads.Learnt,
-  follow-below t,
-  follow.Post,
-) (expand-at t) expand.Post expand-Inv-loop expand-μ-loop
+expand-loop-again-2 : (t : ℕ) → expand-lts.Need-loop-again-2 (expand-calls t) (expand-at t) expand.Post expand-Inv-loop expand-μ-loop
 expand-loop-again-2 t c =
-    let a = c .before .before .before .before .before .before .before .before .before .before .before .before .before .before .before .before .before .before .args in
+    let s = c .before .before .before .before .before .before .before .before .before .before .before .before in
+    let a = expand-begun t s .args in
     let names = namesOf (a .table .now) in
-    let l = c .before .before .before .before .before .before .before .before .before .before .before .before .before .loop in
-    let mode = c .before .before .before .before .before .before .before .before .before .before .before .before .before .before .open .result .mode in
+    let rest = expand-turn t s .loop .rest in
     let r = c .before .before .before .before .before .before .before .before .before .before .symbol4 .given in
-    let name = take (r .0 .1 .0 - r .0 .0) (drop (r .0 .0) (a .text .now)) in
-    let came = subst (λ k. Came (pieceOf (a .table .now) (expands names (a .levels)) k name (l .here)) (l .rest) (l .to) (l .out) (c .before .before .before .before .before .follow .last .1 .1 .1 .1 .1 .1 .0) (c .before .before .before .before .before .follow .result))
-    (c .before .before .before .before .before .before .before .resolve .ensures) (c .before .before .before .before .before .follow .ensures name) in
-    let piece = pieceOf (a .table .now) (expands names (a .levels)) (referredIn (a .table .now) name) name (l .here) in
-    let s = expand-stands t (c .before .before .before .before .before .before .before .before .before .before .before .before) _ (r .1) in
-    let g = c .before .came .given in
-    at-reference (a .table .now) (expands names (a .levels)) (a .text .now) (a .flags .0) (a .left) (a .at) (a .out .now) mode (l .out) (l .here) (l .to) (l .rest)
-    (r .0 .0) (r .0 .1 .0) (r .0 .1 .1 .0) (l .inv) (sym (c .before .before .before .before .before .before .before .before .before .before .before .before .symbol-at .ensures) ∙ r .1) _ _ _
-    (omega (arith, s .begins, s .long, s .behind)) (s .within)
-    (came-through piece (l .rest) (l .to) (l .out) _ _ _ _ came (g .1))
+    let name = take (r .0 .1 .0 - r .0 .0) (drop (r .0 .0) (expand-text t s)) in
+    let follow = c .before .before .before .before .before .follow in
+    let came = subst (λ k. Came (pieceOf (a .table .now) (expands names (a .levels)) k name (expand-here t s)) rest (expand-to t s) (expand-out t s) (follow .last .1 .1 .1 .1 .1 .1 .0) (follow .result))
+    (c .before .before .before .before .before .before .before .resolve .ensures) (follow .ensures name) in
+    let piece = pieceOf (a .table .now) (expands names (a .levels)) (referredIn (a .table .now) name) name (expand-here t s) in
+    let stands = expand-stands t s _ (r .1) in
+    at-reference (a .table .now) (expands names (a .levels)) (expand-text t s) (a .flags .0) (a .left) (a .at) (a .out .now) (expand-mode t s) (expand-out t s) (expand-here t s) (expand-to t s) rest
+    (r .0 .0) (r .0 .1 .0) (r .0 .1 .1 .0) (expand-walk t s) (sym (s .symbol-at .ensures) ∙ r .1) _ _ _
+    (omega (arith, stands .begins, stands .long, stands .behind)) (stands .within)
+    (came-through piece rest (expand-to t s) (expand-out t s) _ _ _ _ came (c .before .came .given .1))
 
-expand-enum-known-came-2 : (t : ℕ) → expand-lts.Need-enum-known-came-2 (
-  open-reads.Asked,
-  open-reads.Learnt,
-  symbol-at-reads.Asked,
-  symbol-at-reads.Learnt,
-  number-reads.Asked,
-  number-reads.Learnt,
-  put-reads.Asked,
-  put-reads.Learnt,
-  resolve-reads.Asked,
-  resolve-reads.Learnt,
-  follow-below t,
-  follow.Post,
-) (expand-at t) expand.Post expand-Inv-loop expand-μ-loop
+expand-enum-known-came-2 : (t : ℕ) → expand-lts.Need-enum-known-came-2 (expand-calls t) (expand-at t) expand.Post expand-Inv-loop expand-μ-loop
 expand-enum-known-came-2 t c = search needs
 
-expand-same-length-3 : (t : ℕ) → expand-lts.Need-same-length-3 (
-  open-reads.Asked,
-  open-reads.Learnt,
-  symbol-at-reads.Asked,
-  symbol-at-reads.Learnt,
-  number-reads.Asked,
-  number-reads.Learnt,
-  put-reads.Asked,
-  put-reads.Learnt,
-  resolve-reads.Asked,
-  resolve-reads.Learnt,
-  follow-below t,
-  follow.Post,
-) (expand-at t) expand.Post expand-Inv-loop expand-μ-loop
+expand-same-length-3 : (t : ℕ) → expand-lts.Need-same-length-3 (expand-calls t) (expand-at t) expand.Post expand-Inv-loop expand-μ-loop
 expand-same-length-3 t c = search needs
 
-expand-returns-3 : (t : ℕ) → expand-lts.Need-returns-3 (
-  open-reads.Asked,
-  open-reads.Learnt,
-  symbol-at-reads.Asked,
-  symbol-at-reads.Learnt,
-  number-reads.Asked,
-  number-reads.Learnt,
-  put-reads.Asked,
-  put-reads.Learnt,
-  resolve-reads.Asked,
-  resolve-reads.Learnt,
-  follow-below t,
-  follow.Post,
-) (expand-at t) expand.Post expand-Inv-loop expand-μ-loop
+expand-returns-3 : (t : ℕ) → expand-lts.Need-returns-3 (expand-calls t) (expand-at t) expand.Post expand-Inv-loop expand-μ-loop
 expand-returns-3 t c =
-    let a = c .before .before .before .before .before .before .before .before .before .before .before .before .before .before .before .before .before .before .args in
+    let s = c .before .before .before .before .before .before .before .before .before .before .before .before in
+    let a = expand-begun t s .args in
     let names = namesOf (a .table .now) in
-    let l = c .before .before .before .before .before .before .before .before .before .before .before .before .before .loop in
-    let mode = c .before .before .before .before .before .before .before .before .before .before .before .before .before .before .open .result .mode in
+    let rest = expand-turn t s .loop .rest in
     let r = c .before .before .before .before .before .before .before .before .before .before .symbol4 .given in
-    let name = take (r .0 .1 .0 - r .0 .0) (drop (r .0 .0) (a .text .now)) in
-    let came = subst (λ k. Came (pieceOf (a .table .now) (expands names (a .levels)) k name (l .here)) (l .rest) (l .to) (l .out) (c .before .before .before .before .before .follow .last .1 .1 .1 .1 .1 .1 .0) (c .before .before .before .before .before .follow .result))
-    (c .before .before .before .before .before .before .before .resolve .ensures) (c .before .before .before .before .before .follow .ensures name) in
-    let piece = pieceOf (a .table .now) (expands names (a .levels)) (referredIn (a .table .now) name) name (l .here) in
-    let g = c .before .came2 .given in
-    let both = came-stopped piece (l .rest) (l .to) (l .out) _ _ _ _ came (g .1) in
-    at-stop (a .table .now) (expands names (a .levels)) (a .text .now) (a .flags .0) (a .left) (a .at) (a .out .now) mode (l .out) (l .here) (l .to) (l .rest)
-    (r .0 .0) (r .0 .1 .0) (r .0 .1 .1 .0) (l .inv) (sym (c .before .before .before .before .before .before .before .before .before .before .before .before .symbol-at .ensures) ∙ r .1) _ _ _ (both .0) (both .1)
+    let name = take (r .0 .1 .0 - r .0 .0) (drop (r .0 .0) (expand-text t s)) in
+    let follow = c .before .before .before .before .before .follow in
+    let came = subst (λ k. Came (pieceOf (a .table .now) (expands names (a .levels)) k name (expand-here t s)) rest (expand-to t s) (expand-out t s) (follow .last .1 .1 .1 .1 .1 .1 .0) (follow .result))
+    (c .before .before .before .before .before .before .before .resolve .ensures) (follow .ensures name) in
+    let piece = pieceOf (a .table .now) (expands names (a .levels)) (referredIn (a .table .now) name) name (expand-here t s) in
+    let both = came-stopped piece rest (expand-to t s) (expand-out t s) _ _ _ _ came (c .before .came2 .given .1) in
+    at-stop (a .table .now) (expands names (a .levels)) (expand-text t s) (a .flags .0) (a .left) (a .at) (a .out .now) (expand-mode t s) (expand-out t s) (expand-here t s) (expand-to t s) rest
+    (r .0 .0) (r .0 .1 .0) (r .0 .1 .1 .0) (expand-walk t s) (sym (s .symbol-at .ensures) ∙ r .1) _ _ _ (both .0) (both .1)
 
 -- a value is no longer than its variable says
 part-short : (table value : List ℕ) (v : Variable) → value ≡ partOf table v → v .length ≤ 255 → length value ≤ 255
@@ -1318,26 +1050,21 @@ follow-returns-8 t c name =
     (c .behind .ensures)
 
 pub +expand+follow-spec : {M : Type 1} → statement M
-+expand+follow-spec = close μ-expand μ-follow (λ t. expand-lts.spec (
-  open-reads.Asked,
-  open-reads.Learnt,
-  symbol-at-reads.Asked,
-  symbol-at-reads.Learnt,
-  number-reads.Asked,
-  number-reads.Learnt,
-  put-reads.Asked,
-  put-reads.Learnt,
-  resolve-reads.Asked,
-  resolve-reads.Learnt,
-  follow-below t,
-  follow.Post,
-)
++expand+follow-spec = close μ-expand μ-follow (λ t. expand-lts.spec (expand-calls t)
     (expand-at t)
     expand.Post
     expand-Inv-loop
     expand-μ-loop
     (expand-open-requires t)
+    (expand-is-ending-space-requires t)
     (expand-loop-holds t)
+    (expand-plain-end-requires t)
+    (expand-sub-copy t)
+    (expand-part-copy-start t)
+    (expand-part-copy-end t)
+    (expand-copy-requires t)
+    (expand-sub-to t)
+    (expand-add-to t)
     (expand-symbol-at-requires t)
     (expand-enum-known-symbol t)
     (expand-same-length t)
@@ -1348,7 +1075,7 @@ pub +expand+follow-spec : {M : Type 1} → statement M
     (expand-returns-2 t)
     (expand-enum-known-symbol-3 t)
     (expand-put-requires t)
-    (expand-add-to t)
+    (expand-add-to-2 t)
     (expand-loop-less t)
     (expand-loop-again t)
     (expand-enum-known-symbol-4 t)

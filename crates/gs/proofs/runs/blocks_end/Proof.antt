@@ -1,0 +1,58 @@
+-- `blocks_end` meets its contract. The loop's invariant: no byte from the start up to here ends a run. The measure is what is left of
+-- the text.
+use Prim.Native.Nat.{_-_}
+use native.Mathlib.Omega.{arith}
+use lib.ListN.{length}
+use Rattle.gs.specs.SymbolSteps.{Stretch}
+use Rattle.gs.proofs.PlainRuns.{stretch-more}
+use borrow.Author.Needs.{needs}
+use Rattle.gs.proofs.runs.blocks_end.Statement.{statement}
+use Rattle.gs.proofs.runs.blocks_end.Tie as tie
+
+abbrev Inv-loop : tie.InvT-loop
+Inv-loop text start also at₀ at = Stretch also text start at
+
+abbrev μ-loop : tie.MeasureT-loop
+μ-loop text start also at₀ at = length text - at
+
+loop-holds : tie.Need-loop-holds Inv-loop μ-loop
+loop-holds c = search needs
+
+sub-loop : tie.Need-sub-loop Inv-loop μ-loop
+sub-loop c = search needs
+
+weight-requires : tie.Need-weight-requires Inv-loop μ-loop
+weight-requires c κs = search needs
+
+returns : tie.Need-returns Inv-loop μ-loop
+returns c = search needs
+
+add-at : tie.Need-add-at Inv-loop μ-loop
+add-at c = search needs
+
+loop-less : tie.Need-loop-less Inv-loop μ-loop
+loop-less c = search needs
+
+loop-again : tie.Need-loop-again Inv-loop μ-loop
+loop-again c =
+    let a = c .before .before .before .before .before .args in
+    let l = c .before .before .before .loop in
+    stretch-more (a .also) (a .text .now) (a .start) (l .at) _ (l .inv) (c .before .weight .ensures (omega arith))
+
+returns-2 : tie.Need-returns-2 Inv-loop μ-loop
+returns-2 c = search needs
+
+pub blocks-end-spec : {M : Type 1} → statement M
+blocks-end-spec =
+    tie.close
+    (tie.spec
+    Inv-loop
+    μ-loop
+    loop-holds
+    sub-loop
+    weight-requires
+    returns
+    add-at
+    loop-less
+    loop-again
+    returns-2)

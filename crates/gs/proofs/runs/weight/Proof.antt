@@ -1,0 +1,73 @@
+-- `weight` meets its contract. The loop's invariant: while the sum is 0, the bytes passed end no run; the sum grows by 7 at most.
+-- The measure is what is left of the block.
+use mathlib.Core.Path.{_≡_, subst}
+use Prim.Native.Nat.{_+_, _-_, _*_, _≤_}
+use native.Mathlib.Omega.{arith}
+use Rattle.gs.specs.SymbolSteps.{Stretch}
+use Rattle.gs.proofs.PlainRuns.{stretch-none, stretch-next}
+use borrow.Author.Needs.{needs}
+use Rattle.gs.proofs.runs.weight.Statement.{statement}
+use Rattle.gs.proofs.runs.weight.Tie as tie
+
+abbrev Inv-loop : tie.InvT-loop
+Inv-loop text at also sum₀ i₀ sum i =
+    (i ≤ 16) × (sum ≤ 7 * i) × (sum ≡ 0 → Stretch also text at (at + i))
+
+abbrev μ-loop : tie.MeasureT-loop
+μ-loop text at also sum₀ i₀ sum i = 16 - i
+
+loop-holds : tie.Need-loop-holds Inv-loop μ-loop
+loop-holds c =
+    let a = c .before .args in
+    (omega arith, omega arith, λ none. stretch-none (a .also) (a .text .now) (a .at) _ (omega arith) (omega arith))
+
+add-marks : tie.Need-add-marks Inv-loop μ-loop
+add-marks c = search needs
+
+shared-slice-read-marks : tie.Need-shared-slice-read-marks Inv-loop μ-loop
+shared-slice-read-marks c = search needs
+
+marks-requires : tie.Need-marks-requires Inv-loop μ-loop
+marks-requires c κs = search needs
+
+add-sum : tie.Need-add-sum Inv-loop μ-loop
+add-sum c = search needs
+
+add-i : tie.Need-add-i Inv-loop μ-loop
+add-i c = search needs
+
+loop-less : tie.Need-loop-less Inv-loop μ-loop
+loop-less c = search needs
+
+loop-again : tie.Need-loop-again Inv-loop μ-loop
+loop-again c =
+    let a = c .before .before .before .before .before .args in
+    let l = c .before .before .before .loop in (
+      omega arith,
+      omega arith,
+      λ none.
+          stretch-next (a .also) (a .text .now) (a .at) (a .at + l .i) _ (l .inv .2 (omega arith)) (omega arith) (omega arith)
+          (c .marks .ensures .1 (omega arith)),
+    )
+
+returns : tie.Need-returns Inv-loop μ-loop
+returns c none =
+    let a = c .before .before .before .args in
+    let all : c .before .loop .i ≡ 16 = omega arith in
+    subst (λ i. Stretch (a .also) (a .text .now) (a .at) (a .at + i)) all (c .before .loop .inv .2 none)
+
+pub weight-spec : {M : Type 1} → statement M
+weight-spec =
+    tie.close
+    (tie.spec
+    Inv-loop
+    μ-loop
+    loop-holds
+    add-marks
+    shared-slice-read-marks
+    marks-requires
+    add-sum
+    add-i
+    loop-less
+    loop-again
+    returns)

@@ -1,0 +1,87 @@
+// Runs of bytes that stand for themselves. Most of a text is such runs, so they are found block by block, with no branch inside
+// a block: the compiler then makes vector instructions of a block's comparisons.
+ghost use mathlib.Core.Path.{_≡_};
+ghost use mathlib.Core.Bool.{true};
+ghost use Prim.Native.Nat.{_+_, _≤_};
+ghost use lib.ListN.{length};
+ghost use Rattle.gs.specs.SymbolSteps.{alsoEnds, PlainByte, Stretch};
+
+// A block's length. Its weight is at most 7 for each byte, and so fits a byte.
+const BLOCK: usize = 16;
+
+// 1 where two bytes are equal, else 0: a number to be summed, and no branch.
+fn hit(a: u8, b: u8) -> u8
+    ensures { λ r. ⌜ (r ≤ 1) × (r ≡ 0 → a ≡ b → ⊥) ⌝ }
+{
+    if a == b { 1 } else { 0 }
+}
+
+// The byte that ends a run besides those that always do. The zero, which does so anyway, stands for none.
+fn also_ends(spaces_end: bool) -> u8
+    ensures { λ r. ⌜ r ≡ alsoEnds «spaces_end» ⌝ }
+{
+    if spaces_end { b' ' } else { 0 }
+}
+
+// 0 where a byte ends no run.
+fn marks(c: u8, also: u8) -> u8
+    ensures { λ r. ⌜ (r ≤ 7) × (r ≡ 0 → PlainByte also c) ⌝ }
+{
+    let lines = hit(c, 0) + hit(c, 10) + hit(c, 13);
+    lines + hit(c, b'"') + hit(c, b'<') + hit(c, b'|') + hit(c, also)
+}
+
+// Whether a byte ends no run, for one byte by itself: the compiler makes one bit test of these, and nothing good of a sum.
+fn is_plain(c: u8, also: u8) -> bool
+    ensures { λ r. ⌜ (r ≡ true → PlainByte also c) ⌝ }
+{
+    if c == 0 || c == 10 || c == 13 || c == b'"' || c == b'<' || c == b'|' {
+        return false;
+    }
+    c != also
+}
+
+// 0 where no byte of a block ends a run.
+fn weight(text: &[u8], at: usize, also: u8) -> u8
+    requires { ⌜ at + 16 ≤ length (now text) ⌝ }
+    ensures { λ r. ⌜ (r ≡ 0 → Stretch also (now (text .entry)) at (at + 16)) ⌝ }
+{
+    let mut sum = 0;
+    let mut i = 0;
+    while i < BLOCK {
+        sum += marks(text[at + i], also);
+        i += 1;
+    }
+    sum
+}
+
+// The end of the whole blocks from `start` on in which no byte ends a run.
+fn blocks_end(text: &[u8], start: usize, also: u8) -> usize
+    requires { ⌜ start ≤ length (now text) ⌝ }
+    ensures { λ r. ⌜ Stretch also (now (text .entry)) start r ⌝ }
+{
+    let mut at = start;
+    while BLOCK <= text.len() - at {
+        if weight(text, at, also) != 0 {
+            return at;
+        }
+        at += BLOCK;
+    }
+    at
+}
+
+// The end of a run of bytes from `start` on that stand for themselves in every text, spaces only where they do not end it.
+pub(crate) fn plain_end(text: &[u8], start: usize, spaces_end: bool) -> usize
+    requires { ⌜ start ≤ length (now text) ⌝ }
+    ensures { λ r. ⌜ Stretch (alsoEnds «spaces_end») (now (text .entry)) start r ⌝ }
+{
+    let also = also_ends(spaces_end);
+    let mut at = blocks_end(text, start, also);
+    while at < text.len() {
+        if !is_plain(text[at], also) {
+            return at;
+        }
+        at += 1;
+    }
+    at
+}
