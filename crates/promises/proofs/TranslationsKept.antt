@@ -2,22 +2,24 @@
 use mathlib.Core.Path.{_≡_, refl, ap, sym, subst, subst₂, _∙_}
 use mathlib.Core.Bool.{Bool, true, false, cond}
 use mathlib.Core.List.{List, _++_}
-use Prim.Native.Nat.{ℕ, _+_, _-_, _≤_, min}
+use Prim.Native.Nat.{ℕ, _+_, _-_, _≤_, _<_, min}
 use native.Mathlib.Omega.{arith}
 use lib.Dec.{eqb}
 use lib.ListN.{length, drop}
 use borrow.Author.Tests.{eqb-true}
 use Rattle.paper.specs.Answers.{Answer, Grown}
-use Rattle.paper.specs.Refusals.{no-room, allowance-spent, longest}
+use Rattle.paper.specs.Refusals.{no-room, allowance-spent, over-length, longest}
 use Rattle.paper.specs.Traces.{Trace, bytes, answer}
-use Rattle.paper.proofs.Choice.{not-below}
+use Rattle.paper.proofs.Choice.{below, not-below}
 use Rattle.paper.proofs.DemandThree.{more-room, more-allowance, no-room-exactly, no-room-need, spent-exactly}
 use Rattle.variables.specs.Tables.{checked}
+use Rattle.variables.specs.declared.Checked.the-variants.{Refused as Unsound}
+use Rattle.paper.specs.declared.RecordPlace.{RecordPlace}
 use Rattle.gs.specs.Translations.{readingOf, allowed, translatedBy, translatedOver, leftBy, translated, outAfter, inPaper}
 use Rattle.gs.specs.declared.Translated.{Translated}
 use Rattle.gs.specs.declared.Translated.the-variants.{Written, Refused, BadTable}
 use Rattle.promises.specs.Allowed.{Translates}
-use Rattle.promises.specs.Translations.{OneAnswer, Kept, Bytes, Sound, ByReading, LargerRoom, LargerAllowance, NoRoom, Spent}
+use Rattle.promises.specs.Translations.{OneAnswer, Kept, Bytes, Sound, ByReading, Unread, LargerRoom, LargerAllowance, NoRoom, Spent}
 
 pub one-answer : OneAnswer
 one-answer text table flags allowance out after after′ r r′ c c′ = (c .answer ∙ sym (c′ .answer), c .buffer ∙ sym (c′ .buffer))
@@ -59,6 +61,23 @@ pub by-reading : ByReading
 by-reading text table flags allowance out after r s c =
     ap inPaper (c .answer ∙ sym (sound-answer text table flags allowance (length out) s))
     ∙ in-by (answer (readingOf text table flags) (allowed allowance) (length out))
+
+too-long : (text table : List ℕ) (flags allowance room : ℕ) → longest < length text
+    → Refused over-length (record { 0 = 0 }) 0 room ≡ translated text table flags allowance room
+unfolding translated
+too-long text table flags allowance room long = below longest (length text) _ _ long refl
+
+bad-table : (text table : List ℕ) (flags allowance room number : ℕ) (at : RecordPlace) → length text ≤ longest → checked table ≡ Unsound number at
+    → BadTable number at room ≡ translated text table flags allowance room
+unfolding translated
+bad-table text table flags allowance room number at short bad =
+    not-below longest (length text) _ _ short (ap (λ d. translatedOver d (readingOf text table flags) allowance room) (sym bad))
+
+pub unread : Unread
+unread text table flags allowance out after r c = (
+  λ long. ap inPaper (c .answer ∙ sym (too-long text table flags allowance (length out) long)),
+  λ number at short bad. ap inPaper (c .answer ∙ sym (bad-table text table flags allowance (length out) number at short bad)),
+)
 
 pub larger-room : LargerRoom
 larger-room text table flags allowance more out after out′ after′ r r′ s longer c c′ n =

@@ -5,12 +5,13 @@ use mathlib.Core.Logic.{_↔_}
 use Prim.Native.Nat.{ℕ, _+_, _≤_, _<_}
 use lib.ListN.{length, drop}
 use Rattle.paper.specs.Answers.{Answer, Grown}
-use Rattle.paper.specs.Refusals.{no-room, allowance-spent, longest}
+use Rattle.paper.specs.Refusals.{no-room, allowance-spent, over-length, longest}
 use Rattle.paper.specs.Traces.{Trace, bytes, answer, Ending, done, ending, lookUps}
 use Rattle.variables.specs.Tables.{checked}
-use Rattle.variables.specs.declared.Checked.the-variants.{Good}
+use Rattle.variables.specs.declared.Checked.the-variants.{Good, Refused as Unsound}
 use Rattle.gs.specs.Translations.{readingOf, allowed, inPaper}
 use Rattle.paper.specs.declared.TextPlace.{TextPlace}
+use Rattle.paper.specs.declared.RecordPlace.{RecordPlace}
 use Rattle.gs.specs.declared.Translated.{Translated}
 use Rattle.gs.specs.declared.Translated.the-variants.{Written}
 use Rattle.promises.specs.Allowed.{Translates}
@@ -44,6 +45,13 @@ abbrev pub ByReading : Type 0
 ByReading =
     (text table : List ℕ) (flags allowance : ℕ) (out after : List ℕ) (r : Translated) → Sound text table
     → Translates text table flags allowance out r after → inPaper r ≡ answer (readingOf text table flags) (allowed allowance) (length out)
+
+-- what is refused before the reading: 18 for the text, else what the table's check says. Neither room nor allowance matters
+abbrev pub Unread : Type 0
+Unread =
+    (text table : List ℕ) (flags allowance : ℕ) (out after : List ℕ) (r : Translated) → Translates text table flags allowance out r after
+    → (longest < length text → inPaper r ≡ record { number = over-length; place = 0; need = 0; free = length out })
+    × ((number : ℕ) (at : RecordPlace) → length text ≤ longest → checked table ≡ Unsound number at → inPaper r ≡ record { number = number; place = at .0; need = 0; free = length out })
 
 -- Demand 3: an answer other than No room stays the same under every larger room, its free up by exactly the room added
 abbrev pub LargerRoom : Type 0
