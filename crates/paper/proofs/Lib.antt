@@ -1,3 +1,4 @@
 -- Laws that every chapter's proofs share.
 pub mod Choice
+pub mod Spaces
 pub mod DemandThree

@@ -1,4 +1,5 @@
 -- What every chapter's definitions share.
 pub mod Refusals
+pub mod Bytes
 pub mod Answers
 pub mod Traces

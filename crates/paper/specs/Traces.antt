@@ -1,7 +1,7 @@
 -- A reading as a trace of what happens, which knows neither the room nor the allowance; its run under an allowance; its answer.
 use mathlib.Core.Bool.{cond}
 use mathlib.Core.List.{List, [], _∷_, _++_}
-use Prim.Native.Nat.{ℕ, zero, suc, _+_, _-_}
+use Prim.Native.Nat.{ℕ, zero, suc, _+_, _-_, min}
 use lib.Dec.{ltb}
 use lib.ListN.{length}
 use Rattle.paper.specs.Answers.{Answer}
@@ -80,6 +80,10 @@ fit (finished end left) need room =
     (record { number = no-room; place = 0; need = need; free = room })
     (record { number = 0; place = end; need = need; free = room - need })
 fit (stopped number place) need room = record { number = number; place = place; need = 0; free = room }
+
+-- the allowance is 0 to 1,024; more counts as 1,024
+abbrev pub allowed : ℕ → ℕ
+allowed allowance = min allowance 1024
 
 abbrev pub answer : Trace → ℕ → ℕ → Answer
 answer trace allowance room = fit (run trace allowance) (length (bytes trace)) room

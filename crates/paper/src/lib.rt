@@ -1,5 +1,7 @@
-// What every chapter shares: the two kinds of place, and the refusal numbers by name.
+// What every chapter shares: the two kinds of place, the refusal numbers by name, a text's bytes and the allowance.
 
+pub mod allowance;
+pub mod bytes;
 pub mod faults;
 
 // A place in a text, counted in bytes from its start.

@@ -5,6 +5,7 @@ ghost use lib.ListN.{length, take, drop};
 ghost use Rattle.variables.specs.Records.{meaning};
 ghost use Rattle.variables.specs.Tables.{refused, before, isNew, sound, scanned, most, checked, meaningOf, foundAs, lookedUp};
 
+pub mod integers;
 pub mod names;
 mod records;
 

@@ -1,0 +1,52 @@
+-- `skip_spaces` meets its contract. The loop's invariant: the spaces passed and those from there on are those from the start on.
+-- The measure is what is left of the length.
+use mathlib.Core.List.{List}
+use mathlib.Core.Path.{_≡_, refl}
+use Prim.Native.Nat.{ℕ, _+_, _-_, _<_}
+use native.Mathlib.Omega.{arith}
+use borrow.Author.Needs.{needs}
+use lib.ListN.{length, drop}
+use Rattle.paper.specs.Bytes.{spaces}
+use Rattle.paper.proofs.Spaces.{inside, space-more, space-none}
+use Rattle.paper.proofs.bytes.skip_spaces.Statement.{statement}
+use Rattle.paper.proofs.bytes.skip_spaces.Tie as tie
+
+abbrev Inv-loop : tie.InvT-loop
+Inv-loop text start at₀ at = start + spaces (drop start text) ≡ at + spaces (drop at text)
+
+abbrev μ-loop : tie.MeasureT-loop
+μ-loop text start at₀ at = length text - at
+
+-- where the byte at hand is known
+module _ (c : tie.After-byte Inv-loop μ-loop) where
+  abbrev text : List ℕ
+  text = c .before .before .before .args .text .now
+
+  abbrev at : ℕ
+  at = c .before .loop .at
+
+further : (c : tie.Then1 Inv-loop μ-loop) → at (c .before) < length (text (c .before))
+further c = inside (text (c .before)) (at (c .before)) (omega arith)
+
+loop-holds : tie.Need-loop-holds Inv-loop μ-loop
+loop-holds c = refl
+
+byte-requires : tie.Need-byte-requires Inv-loop μ-loop
+byte-requires c κs = search needs
+
+add-at : tie.Need-add-at Inv-loop μ-loop
+add-at c = omega (arith, further c)
+
+loop-less : tie.Need-loop-less Inv-loop μ-loop
+loop-less c = omega (arith, further c)
+
+loop-again : tie.Need-loop-again Inv-loop μ-loop
+loop-again c = omega (arith, space-more (text (c .before)) (at (c .before)) (omega arith))
+
+returns : tie.Need-returns Inv-loop μ-loop
+returns c = omega (arith, space-none (text (c .before)) (at (c .before)) (λ e. omega arith))
+
+pub skip-spaces-spec : {M : Type 1} → statement M
+skip-spaces-spec =
+    tie.close
+    (tie.spec Inv-loop μ-loop loop-holds byte-requires add-at loop-less loop-again returns)
