@@ -1,5 +1,6 @@
 -- What every chapter's definitions share.
 pub mod Refusals
 pub mod Bytes
+pub mod Texts
 pub mod Answers
 pub mod Traces

@@ -1,0 +1,58 @@
+-- What an evaluation answers.
+use mathlib.Core.Bool.{cond}
+use mathlib.Core.List.{List}
+use Prim.Native.Nat.{ℕ}
+use lib.Dec.{ltb}
+use lib.IntN.{ℤ, pos}
+use lib.ListN.{length}
+use Rattle.paper.specs.Refusals.{over-length, longest}
+use Rattle.paper.specs.Traces.{Trace, Run, finished, stopped, run, allowed}
+use Rattle.variables.specs.Names.{namesOf}
+use Rattle.variables.specs.Tables.{checked}
+use Rattle.variables.specs.declared.Checked.{Checked}
+use Rattle.variables.specs.declared.Checked.the-variants.{Good, Refused as Unsound}
+use Rattle.expressions.specs.Trees.{whole}
+use Rattle.expressions.specs.Values.{signed}
+use Rattle.expressions.specs.Evaluations.{evaluation, result}
+use Rattle.expressions.specs.declared.Evaluated.{Evaluated}
+use Rattle.expressions.specs.declared.Evaluated.the-variants.{Value, Refused, BadTable}
+
+-- 01's reading of an expression over a table, and its value
+abbrev pub readingOf : List ℕ → List ℕ → Trace
+readingOf text table = evaluation (namesOf table) (whole text)
+
+abbrev pub valueIn : List ℕ → List ℕ → ℕ
+valueIn text table = result (namesOf table) (whole text)
+
+abbrev pub refusedAt : ℕ → ℕ → Evaluated
+refusedAt number place = Refused number (record { 0 = place })
+
+abbrev pub evaluatedBy : Run → ℕ → Evaluated
+evaluatedBy (finished end left) value = Value value (record { 0 = end })
+evaluatedBy (stopped number place) value = refusedAt number place
+
+abbrev pub evaluatedOver : Checked → Trace → ℕ → ℕ → Evaluated
+evaluatedOver (Good count) trace allowance value = evaluatedBy (run trace (allowed allowance)) value
+evaluatedOver (Unsound number at) trace allowance value = BadTable number at
+
+-- 18 for the text, 18 and 13 for the table, then the syntax, then the evaluation
+unfoldable pub evaluated : List ℕ → List ℕ → ℕ → Evaluated
+evaluated text table allowance =
+    let reading = evaluatedOver (checked table) (readingOf text table) allowance (valueIn text table) in
+    cond (ltb longest (length text)) (refusedAt over-length 0) reading
+
+-- the paper's numbers of an answer: the refusal's number, 0 where accepted; the place, a bad table's in the table; the value
+abbrev pub numberOf : Evaluated → ℕ
+numberOf (Value pattern end) = 0
+numberOf (Refused number at) = number
+numberOf (BadTable number at) = number
+
+abbrev pub placeOf : Evaluated → ℕ
+placeOf (Value pattern end) = end .0
+placeOf (Refused number at) = at .0
+placeOf (BadTable number at) = at .0
+
+abbrev pub valueOf : Evaluated → ℤ
+valueOf (Value pattern end) = signed pattern
+valueOf (Refused number at) = pos 0
+valueOf (BadTable number at) = pos 0

@@ -1,0 +1,229 @@
+// Parts of an expression, read and evaluated in one pass: a value; a refusal of the evaluation, which waits until the syntax is known to
+// be good; or a refusal of the syntax.
+ghost use mathlib.Core.Path.{_≡_};
+ghost use mathlib.Core.List.{List};
+ghost use Prim.Native.Nat.{ℕ};
+ghost use Rattle.variables.specs.Names.{Meaning, namesOf};
+ghost use Rattle.expressions.specs.Trees as Trees;
+ghost use Rattle.expressions.specs.Steps.{partOf, accountOf, movedTo, coveredPart, appliedPart, joinedPart};
+ghost use Rattle.expressions.specs.declared.parts.Account.the-variants as Account;
+use crate::operators::Operator;
+use crate::values;
+use paper::ALLOWANCE_SPENT;
+use paper::NOT_AN_INTEGER;
+use paper::UNKNOWN_NAME;
+use paper::ZERO_DIVISOR;
+use paper::faults::Fault;
+use variables::Found;
+use variables::integers::pattern_of;
+
+// How the evaluation stands: the look-ups that are left, or the first refusal that it met.
+pub enum Account {
+    Open(u32),
+    Shut { number: u8, place: usize },
+}
+
+pub enum Part {
+    // A 32-bit pattern, the look-ups left, and the first place behind the part.
+    Value {
+        value: u32,
+        left: u32,
+        next: usize,
+    },
+    // The evaluation is refused; the part goes up to `next`.
+    Refused {
+        number: u8,
+        place: usize,
+        next: usize,
+    },
+    // The syntax is refused.
+    Wrong {
+        fault: Fault,
+        place: usize,
+    },
+}
+
+// How the evaluation stands behind a part.
+pub(crate) fn account_of(part: Part) -> Account
+    ensures { λ r. ⌜ r ≡ accountOf part ⌝ }
+{
+    match part {
+        Part::Value {
+            value: _,
+            left,
+            next: _,
+        } => Account::Open(left),
+        Part::Refused {
+            number,
+            place,
+            next: _,
+        } => Account::Shut { number, place },
+        Part::Wrong { fault: _, place: _ } => Account::Open(0),
+    }
+}
+
+// The same part, up to another place.
+pub(crate) fn moved_to(part: Part, next: usize) -> Part
+    ensures { λ r. ⌜ r ≡ movedTo next part ⌝ }
+{
+    match part {
+        Part::Value {
+            value,
+            left,
+            next: _,
+        } => Part::Value { value, left, next },
+        Part::Refused {
+            number,
+            place,
+            next: _,
+        } => Part::Refused {
+            number,
+            place,
+            next,
+        },
+        Part::Wrong { fault, place } => Part::Wrong { fault, place },
+    }
+}
+
+// A number spends nothing.
+pub(crate) fn number(value: u32, next: usize, account: Account) -> Part
+    ensures { λ r. ⌜ ((names : List ℕ → Meaning) → r ≡ partOf names account (Trees.tree (Trees.number value) next)) ⌝ }
+{
+    match account {
+        Account::Open(left) => Part::Value { value, left, next },
+        Account::Shut { number, place } => Part::Refused {
+            number,
+            place,
+            next,
+        },
+    }
+}
+
+// A name must be known, and an integer variable; then it spends one look-up.
+fn look_up(name: &[u8], table: &[u8], place: usize, next: usize, left: u32) -> Part
+    ensures { λ r. ⌜ r ≡ partOf (namesOf (now (table .entry))) (Account.Open left) (Trees.tree (Trees.name (now (name .entry)) place) next) ⌝ }
+{
+    let found = variables::find(table, name);
+    let Found::At(v) = found else {
+        return Part::Refused {
+            number: UNKNOWN_NAME,
+            place,
+            next,
+        };
+    };
+    if v.kind != 1 {
+        return Part::Refused {
+            number: NOT_AN_INTEGER,
+            place,
+            next,
+        };
+    }
+    if left == 0 {
+        return Part::Refused {
+            number: ALLOWANCE_SPENT,
+            place,
+            next,
+        };
+    }
+    Part::Value {
+        value: pattern_of(variables::value_of(table, v)),
+        left: left - 1,
+        next,
+    }
+}
+
+// Behind a refusal no name is looked up any more.
+pub(crate) fn named(name: &[u8], table: &[u8], place: usize, next: usize, account: Account) -> Part
+    ensures { λ r. ⌜ r ≡ partOf (namesOf (now (table .entry))) account (Trees.tree (Trees.name (now (name .entry)) place) next) ⌝ }
+{
+    match account {
+        Account::Open(left) => look_up(name, table, place, next, left),
+        Account::Shut {
+            number,
+            place: first,
+        } => Part::Refused {
+            number,
+            place: first,
+            next,
+        },
+    }
+}
+
+// An operator before one operand.
+pub(crate) fn covered(operator: Operator, part: Part) -> Part
+    ensures { λ r. ⌜ r ≡ coveredPart operator part ⌝ }
+{
+    match part {
+        Part::Value { value, left, next } => Part::Value {
+            value: values::unary(operator, value),
+            left,
+            next,
+        },
+        Part::Refused {
+            number,
+            place,
+            next,
+        } => Part::Refused {
+            number,
+            place,
+            next,
+        },
+        Part::Wrong { fault, place } => Part::Wrong { fault, place },
+    }
+}
+
+fn applied(operator: Operator, place: usize, l: u32, r: u32, left: u32, next: usize) -> Part
+    ensures { λ p. ⌜ p ≡ appliedPart operator place l r left next ⌝ }
+{
+    if operator.divides() && r == 0 {
+        return Part::Refused {
+            number: ZERO_DIVISOR,
+            place,
+            next,
+        };
+    }
+    Part::Value {
+        value: values::binary(operator, l, r),
+        left,
+        next,
+    }
+}
+
+// Two parts and the operator between them, at its place; the right one was evaluated behind the left one.
+pub(crate) fn joined(operator: Operator, place: usize, left: Part, right: Part) -> Part
+    ensures { λ p. ⌜ p ≡ joinedPart operator place left right ⌝ }
+{
+    match right {
+        Part::Wrong { fault, place: at } => Part::Wrong { fault, place: at },
+        Part::Refused {
+            number,
+            place: at,
+            next,
+        } => Part::Refused {
+            number,
+            place: at,
+            next,
+        },
+        Part::Value {
+            value: r,
+            left: rest,
+            next,
+        } => match left {
+            Part::Value {
+                value: l,
+                left: _,
+                next: _,
+            } => applied(operator, place, l, r, rest, next),
+            Part::Refused {
+                number,
+                place: at,
+                next: _,
+            } => Part::Refused {
+                number,
+                place: at,
+                next,
+            },
+            Part::Wrong { fault, place: at } => Part::Wrong { fault, place: at },
+        },
+    }
+}
