@@ -1,12 +1,16 @@
 // Parts of an expression, read and evaluated in one pass: a value; a refusal of the evaluation, which waits until the syntax is known to
 // be good; or a refusal of the syntax.
 ghost use mathlib.Core.Path.{_≡_};
+ghost use mathlib.Core.Bool.{_&&_};
 ghost use mathlib.Core.List.{List};
 ghost use Prim.Native.Nat.{ℕ};
+ghost use lib.Dec.{eqb};
 ghost use Rattle.variables.specs.Names.{Meaning, namesOf};
+ghost use Rattle.expressions.specs.Operators.{divides};
 ghost use Rattle.expressions.specs.Trees as Trees;
 ghost use Rattle.expressions.specs.Steps.{partOf, accountOf, movedTo, coveredPart, appliedPart, joinedPart};
 ghost use Rattle.expressions.specs.declared.parts.Account.the-variants as Account;
+ghost use Rattle.expressions.specs.declared.parts.Part.the-variants as Part;
 use crate::operators::Operator;
 use crate::values;
 use paper::ALLOWANCE_SPENT;
@@ -85,6 +89,16 @@ pub(crate) fn moved_to(part: Part, next: usize) -> Part
     }
 }
 
+fn refused(number: u8, place: usize, next: usize) -> Part
+    ensures { λ r. ⌜ r ≡ Part.Refused number place next ⌝ }
+{
+    Part::Refused {
+        number,
+        place,
+        next,
+    }
+}
+
 // A number spends nothing.
 pub(crate) fn number(value: u32, next: usize, account: Account) -> Part
     ensures { λ r. ⌜ ((names : List ℕ → Meaning) → r ≡ partOf names account (Trees.tree (Trees.number value) next)) ⌝ }
@@ -103,32 +117,22 @@ pub(crate) fn number(value: u32, next: usize, account: Account) -> Part
 fn look_up(name: &[u8], table: &[u8], place: usize, next: usize, left: u32) -> Part
     ensures { λ r. ⌜ r ≡ partOf (namesOf (now (table .entry))) (Account.Open left) (Trees.tree (Trees.name (now (name .entry)) place) next) ⌝ }
 {
-    let found = variables::find(table, name);
-    let Found::At(v) = found else {
-        return Part::Refused {
-            number: UNKNOWN_NAME,
-            place,
-            next,
-        };
-    };
-    if v.kind != 1 {
-        return Part::Refused {
-            number: NOT_AN_INTEGER,
-            place,
-            next,
-        };
-    }
-    if left == 0 {
-        return Part::Refused {
-            number: ALLOWANCE_SPENT,
-            place,
-            next,
-        };
-    }
-    Part::Value {
-        value: pattern_of(variables::value_of(table, v)),
-        left: left - 1,
-        next,
+    match variables::find(table, name) {
+        Found::Nothing => refused(UNKNOWN_NAME, place, next),
+        Found::Unsound { number: _, at: _ } => refused(UNKNOWN_NAME, place, next),
+        Found::At(v) => {
+            if v.kind != 1 {
+                return refused(NOT_AN_INTEGER, place, next);
+            }
+            if left == 0 {
+                return refused(ALLOWANCE_SPENT, place, next);
+            }
+            Part::Value {
+                value: pattern_of(variables::value_of(table, v)),
+                left: left - 1,
+                next,
+            }
+        }
     }
 }
 
@@ -172,10 +176,16 @@ pub(crate) fn covered(operator: Operator, part: Part) -> Part
     }
 }
 
+fn divides_by_zero(operator: Operator, r: u32) -> bool
+    ensures { λ b. ⌜ b ≡ (divides operator && eqb r 0) ⌝ }
+{
+    operator.divides() && r == 0
+}
+
 fn applied(operator: Operator, place: usize, l: u32, r: u32, left: u32, next: usize) -> Part
     ensures { λ p. ⌜ p ≡ appliedPart operator place l r left next ⌝ }
 {
-    if operator.divides() && r == 0 {
+    if divides_by_zero(operator, r) {
         return Part::Refused {
             number: ZERO_DIVISOR,
             place,

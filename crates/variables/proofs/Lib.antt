@@ -5,3 +5,4 @@ pub mod Chain
 pub mod Good
 pub mod Unique
 pub mod Bounds
+pub mod Own

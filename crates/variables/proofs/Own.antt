@@ -1,0 +1,45 @@
+-- A record that a name means is the table's own at its place, in any bytes; so the part that a look-up hands out is its value.
+use mathlib.Core.List.{List}
+use mathlib.Core.Path.{_≡_, refl, ap, sym, _∙_}
+use Prim.Native.Nat.{ℕ, zero, suc}
+use native.Mathlib.Omega.{arith}
+use lib.Dec.{ltb}
+use lib.ListN.{length, take, drop}
+use Rattle.paper.proofs.Choice.{either}
+use Rattle.variables.specs.Records.{Entry, Meaning, nothing, means, nextPlace, valueAt, entryAt, entries, meaning, sameName}
+use Rattle.variables.specs.Tables.{most, meaningOf, variableAt}
+
+pub record Own (table : List ℕ) (m : Meaning) : Type 0 where
+  pub own : (e : Entry) → m ≡ means e → e ≡ entryAt table (e .place)
+
+own-nothing : (table : List ℕ) → Own table nothing
+own-nothing table = record { own = λ e p. absurd (clash e p) }
+  where
+    clash : (e : Entry) → nothing ≡ means e → ⊥
+    clash e p = let z : _≡_ {A = ℕ} 0 1 = cc in omega arith
+
+own-here : (table : List ℕ) (place : ℕ) → Own table (means (entryAt table place))
+unfolding entryAt
+own-here table place = record { own = λ e p. here e p }
+  where
+    here : (e : Entry) → means (entryAt table place) ≡ means e → e ≡ entryAt table (e .place)
+    here e p =
+        let q : entryAt table place ≡ e = cc in
+        sym q ∙ ap (λ (f : Entry). entryAt table (f .place)) q
+
+entries-own : (left : ℕ) (table name : List ℕ) (stop place : ℕ) → Own table (meaning (entries left table stop place) name)
+unfolding meaning entries
+entries-own zero table name stop place = own-nothing table
+entries-own (suc left) table name stop place =
+    either (λ es. Own table (meaning es name)) (ltb place stop)
+    (λ _. either (Own table) (sameName (entryAt table place .name) name) (λ _. own-here table place)
+    (λ _. entries-own left table name stop (nextPlace table place)))
+    (λ _. own-nothing table)
+
+pub meaning-own : (table name : List ℕ) → Own table (meaningOf table name)
+meaning-own table name = entries-own most table name (length table) 0
+
+pub own-value : (table : List ℕ) (e : Entry) → e ≡ entryAt table (e .place)
+    → e .value ≡ take (variableAt table e .length) (drop (variableAt table e .start) table)
+unfolding entryAt valueAt
+own-value table e h = ap (λ (f : Entry). f .value) h
