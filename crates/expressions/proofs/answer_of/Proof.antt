@@ -1,46 +1,39 @@
+-- `answer_of` meets its contract, case by case.
+use mathlib.Core.Path.{ap, sym, _∙_}
+use Rattle.expressions.specs.Answers.{refusedAt}
+use Rattle.expressions.specs.Steps.{answerOf}
 use borrow.Author.Needs.{needs}
 use Rattle.expressions.proofs.answer_of.Statement.{statement}
 use Rattle.expressions.proofs.answer_of.Tie as tie
-use Rattle.expressions.proofs.answer_of.Reads as reads
-use Rattle.expressions.proofs.answer_of.Lts as lts
-use Rattle.expressions.proofs.refused.Reads as refused-reads
-use Rattle.paper.proofs.faults.Fault.number.Reads as number-reads
 
--- src/lib.rt:49:13
 enum-known-part : tie.Need-enum-known-part
 enum-known-part c = search needs
 
--- src/lib.rt:57:13
 enum-known-part-2 : tie.Need-enum-known-part-2
 enum-known-part-2 c = search needs
 
--- src/lib.rt:60:14
 refused-requires : tie.Need-refused-requires
 refused-requires c κs = search needs
 
--- src/lib.rt:61:23
 enum-known-part-3 : tie.Need-enum-known-part-3
 enum-known-part-3 c = search needs
 
--- src/lib.rt:61:49
 number-requires : tie.Need-number-requires
 number-requires c κs = search needs
 
--- src/lib.rt:61:41
 refused-requires-2 : tie.Need-refused-requires-2
 refused-requires-2 c κs = search needs
 
--- src/lib.rt:44:1
 returns : tie.Need-returns
-returns c = ?
+returns c = ap answerOf (sym (c .before .part .given .1))
 
--- src/lib.rt:44:1
 returns-2 : tie.Need-returns-2
-returns-2 c = ?
+returns-2 c = c .refused .ensures ∙ ap answerOf (sym (c .before .before .part2 .given .1))
 
--- src/lib.rt:44:1
 returns-3 : tie.Need-returns-3
-returns-3 c = ?
+returns-3 c =
+    let part = c .before .before .before .part3 in
+    c .refused2 .ensures ∙ ap (λ n. refusedAt n (part .given .0 .1 .0)) (c .before .number .ensures) ∙ ap answerOf (sym (part .given .1))
 
 pub answer-of-spec : {M : Type 1} → statement M
 answer-of-spec =

@@ -1,29 +1,57 @@
+-- `binding` meets its contract: an operator binds at its own level, and no other token does.
+use mathlib.Core.List.{[], _∷_}
+use mathlib.Core.Path.{_≡_, refl, ap, sym, _∙_}
+use Prim.Native.Nat.{ℕ}
+use denote.Enum.Declared.{tagOf}
+use types.Run.{OneOf, miss}
+use Rattle.paper.proofs.Choice.{same, other}
+use Rattle.expressions.specs.Operators.{levelOf}
+use Rattle.expressions.specs.Trees.{bindingBy}
+use Rattle.expressions.specs.declared.operators.Operator.{Operator}
+use Rattle.expressions.specs.declared.tokens.Token.{Token}
+use Rattle.expressions.specs.declared.tokens.Token.the-variants.{End, Operator as Operates, Number, BadNumber, Name, Open, Close, Strange}
+use Rattle.expressions.specs.declared.levels.Behind.{Behind}
+use Rattle.expressions.specs.declared.levels.Behind.the-variants.{Binds, Other}
+use Rattle.expressions.proofs.tokens.Token as Token
 use borrow.Author.Needs.{needs}
 use Rattle.expressions.proofs.levels.binding.Statement.{statement}
 use Rattle.expressions.proofs.levels.binding.Tie as tie
-use Rattle.expressions.proofs.levels.binding.Reads as reads
-use Rattle.expressions.proofs.levels.binding.Lts as lts
-use Rattle.expressions.proofs.operators.Operator.level.Reads as level-reads
 
--- src/levels.rt:35:25
+module _ (level at next : ℕ) where
+  binds : (operator : Operator) (token : Token) → token ≡ Operates operator → levelOf operator ≡ level
+      → Binds operator at next ≡ bindingBy level token at next
+  binds operator token t e = same (levelOf operator) level _ _ e refl ∙ ap (λ k. bindingBy level k at next) (sym t)
+
+  loose : (operator : Operator) (token : Token) → token ≡ Operates operator → (levelOf operator ≡ level → ⊥)
+      → Other ≡ bindingBy level token at next
+  loose operator token t n = other (levelOf operator) level _ _ n refl ∙ ap (λ k. bindingBy level k at next) (sym t)
+
+  no-operator : (token : Token) → OneOf (0 ∷ 2 ∷ 3 ∷ 4 ∷ 5 ∷ 6 ∷ 7 ∷ []) (tagOf Token.the-type token) → Other ≡ bindingBy level token at next
+  no-operator (Operates operator) o = absurd (miss (0 ∷ 2 ∷ 3 ∷ 4 ∷ 5 ∷ 6 ∷ 7 ∷ []) 1 tt o)
+  no-operator End o = refl
+  no-operator (Number value) o = refl
+  no-operator (BadNumber fault place) o = refl
+  no-operator Name o = refl
+  no-operator Open o = refl
+  no-operator Close o = refl
+  no-operator Strange o = refl
+
 enum-known-token : tie.Need-enum-known-token
 enum-known-token c = search needs
 
--- src/levels.rt:36:16
 level-requires : tie.Need-level-requires
 level-requires c κs = search needs
 
--- src/levels.rt:37:17
 returns : tie.Need-returns
-returns c = ?
+returns c = binds _ _ _ _ _ (c .before .before .before .token .given .1) (sym (c .before .level .ensures) ∙ c .if1 .taken)
 
--- src/levels.rt:28:1
 returns-2 : tie.Need-returns-2
-returns-2 c = ?
+returns-2 c = loose _ _ _ _ _ (c .before .before .before .token .given .1) (λ e. c .if1 .left (c .before .level .ensures ∙ e))
 
--- src/levels.rt:28:1
 returns-3 : tie.Need-returns-3
-returns-3 c = ?
+returns-3 c =
+    let a = c .before .args in
+    no-operator (a .level) (a .lexed .at) (a .lexed .next) (a .lexed .token) (c .match .keys2)
 
 pub binding-spec : {M : Type 1} → statement M
 binding-spec = tie.close (tie.spec enum-known-token level-requires returns returns-2 returns-3)

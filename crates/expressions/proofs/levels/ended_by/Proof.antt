@@ -1,30 +1,49 @@
+-- `ended_by` meets its contract: the end ends, and every other token is wrong.
+use mathlib.Core.List.{[], _∷_}
+use mathlib.Core.Path.{_≡_, refl, ap, sym, _∙_}
+use Prim.Native.Nat.{ℕ}
+use denote.Enum.Declared.{tagOf}
+use types.Run.{OneOf, miss}
+use Rattle.paper.specs.declared.faults.Fault.the-variants.{BadExpression}
+use Rattle.expressions.specs.Steps.{endedPartBy}
+use Rattle.expressions.specs.declared.parts.Part.{Part}
+use Rattle.expressions.specs.declared.parts.Part.the-variants.{Wrong}
+use Rattle.expressions.specs.declared.tokens.Token.{Token}
+use Rattle.expressions.specs.declared.tokens.Token.the-variants.{End, Operator as Operates, Number, BadNumber, Name, Open as Bracket, Close, Strange}
+use Rattle.expressions.proofs.tokens.Token as Token
 use borrow.Author.Needs.{needs}
 use Rattle.expressions.proofs.levels.ended_by.Statement.{statement}
 use Rattle.expressions.proofs.levels.ended_by.Tie as tie
-use Rattle.expressions.proofs.levels.ended_by.Reads as reads
-use Rattle.expressions.proofs.levels.ended_by.Lts as lts
-use Rattle.expressions.proofs.levels.bad.Reads as bad-reads
-use Rattle.expressions.proofs.parts.moved_to.Reads as moved-to-reads
 
--- src/levels.rt:109:23
+module _ (part : Part) (at : ℕ) where
+  strange : (token : Token) → OneOf (1 ∷ 2 ∷ 3 ∷ 4 ∷ 5 ∷ 6 ∷ 7 ∷ []) (tagOf Token.the-type token) → Wrong BadExpression at ≡ endedPartBy part token at
+  strange End o = absurd (miss (1 ∷ 2 ∷ 3 ∷ 4 ∷ 5 ∷ 6 ∷ 7 ∷ []) 0 tt o)
+  strange (Operates operator) o = refl
+  strange (Number value) o = refl
+  strange (BadNumber fault place) o = refl
+  strange Name o = refl
+  strange Bracket o = refl
+  strange Close o = refl
+  strange Strange o = refl
+
 enum-told : tie.Need-enum-told
 enum-told c = search needs
 
--- src/levels.rt:109:23
 moved-to-requires : tie.Need-moved-to-requires
 moved-to-requires c κs = search needs
 
--- src/levels.rt:110:14
 bad-requires : tie.Need-bad-requires
 bad-requires c κs = search needs
 
--- src/levels.rt:103:1
 returns : tie.Need-returns
-returns c = ?
+returns c =
+    let a = c .before .before .before .args in
+    c .moved-to .ensures ∙ ap (λ k. endedPartBy (a .part) k (a .lexed .at)) (sym (c .before .enum-told .given .1))
 
--- src/levels.rt:103:1
 returns-2 : tie.Need-returns-2
-returns-2 c = ?
+returns-2 c =
+    let a = c .before .before .args in
+    c .bad .ensures ∙ strange (a .part) (a .lexed .at) (a .lexed .token) (c .before .match .keys2)
 
 pub ended-by-spec : {M : Type 1} → statement M
 ended-by-spec = tie.close (tie.spec enum-told moved-to-requires bad-requires returns returns-2)
