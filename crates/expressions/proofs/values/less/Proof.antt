@@ -34,11 +34,11 @@ unfolding sum less
 ordered l r fits fits′ =
     by-sign (λ z. ltb (up l) (up r) ≡ ltZ z (signed r)) l
     (λ h. by-sign (λ z. ltb (up l) (up r) ≡ ltZ (pos l) z) r
-      (λ k. alike (up l) (up r) l r (λ o. omega arith) (λ o. omega arith))
-      (λ k. le-ltb (up l) (up r) (omega arith)))
+    (λ k. alike (up l) (up r) l r (λ o. omega arith) (λ o. omega arith))
+    (λ k. le-ltb (up l) (up r) (omega arith)))
     (λ h. by-sign (λ z. ltb (up l) (up r) ≡ ltZ (negsuc (4294967295 - l)) z) r
-      (λ k. lt-ltb (up l) (up r) (omega arith))
-      (λ k. alike (up l) (up r) (4294967295 - r) (4294967295 - l) (λ o. omega arith) (λ o. omega arith)))
+    (λ k. lt-ltb (up l) (up r) (omega arith))
+    (λ k. alike (up l) (up r) (4294967295 - r) (4294967295 - l) (λ o. omega arith) (λ o. omega arith)))
 
 returns : tie.Need-returns
 returns c =

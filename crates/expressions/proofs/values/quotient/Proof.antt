@@ -44,31 +44,31 @@ sized (pos a) (negsuc b) = rw (le-ltb a 0 zero-le)
 sized (negsuc a) (pos b) = rw (le-ltb b 0 zero-le)
 sized (negsuc a) (negsuc b) = refl
 
+abbrev whole : tie.After-size2 → ℕ
+whole c = c .before .size .result / c .size2 .result
+
+whole-fits : (c : tie.After-size2) → whole c < 4294967296
+whole-fits c = omega (arith, div-le-self (c .before .size .result) (c .size2 .result))
+
 by-sizes : (c : tie.After-is-negative2) (same : Bool) → Bool·beq (c .before .is-negative .result) (c .is-negative2 .result) ≡ same
     → quotient (c .before .before .before .before .before .args .l) (c .before .before .before .before .before .args .r)
-    ≡ wrapped (cond same (pos (c .before .before .before .size .result / c .before .before .size2 .result))
-    (negℤ (pos (c .before .before .before .size .result / c .before .before .size2 .result))))
+    ≡ wrapped (cond same (pos (whole (c .before .before))) (negℤ (pos (whole (c .before .before)))))
 unfolding quotient
 by-sizes c same e =
-    let a = c .before .before .before .before .before .args in
-    rw (sized (signed (a .l)) (signed (a .r)), ← c .before .before .before .size .ensures, ← c .before .before .size2 .ensures,
-        ← c .before .is-negative .ensures, ← c .is-negative2 .ensures, e)
+    let s = c .before .before in
+    let a = s .before .before .before .args in
+    rw (sized (signed (a .l)) (signed (a .r)), ← s .before .size .ensures, ← s .size2 .ensures, ← c .before .is-negative .ensures, ← c .is-negative2 .ensures, e)
 
 returns-2 : tie.Need-returns-2
-returns-2 c =
-    let s = c .before .before .before in
-    sym (mod-eq-of-lt {n = s .before .size .result / s .size2 .result} (omega (arith, div-le-self (s .before .size .result) (s .size2 .result))))
-    ∙ sym (by-sizes (c .before) true (c .if2 .taken))
+returns-2 c = sym (mod-eq-of-lt (whole-fits (c .before .before .before))) ∙ sym (by-sizes (c .before) true (c .if2 .taken))
 
 difference-requires : tie.Need-difference-requires
 difference-requires c κs = search needs
 
 returns-3 : tie.Need-returns-3
 returns-3 c =
-    let s = c .before .before .before .before in
-    c .difference .ensures
-    ∙ turned (s .before .size .result / s .size2 .result) (omega (arith, div-le-self (s .before .size .result) (s .size2 .result)))
-    ∙ sym (by-sizes (c .before .before) false (c .before .if2 .left))
+    let n = c .before .before in
+    c .difference .ensures ∙ turned (whole (n .before .before)) (whole-fits (n .before .before)) ∙ sym (by-sizes n false (c .before .if2 .left))
 
 pub quotient-spec : {M : Type 1} → statement M
 quotient-spec =

@@ -41,27 +41,28 @@ sized : (a b : ℤ) → remZ a b ≡ cond (ltZ a (pos 0)) (negℤ (pos (natAbs a
 sized (pos a) b = rw (le-ltb a 0 zero-le)
 sized (negsuc a) b = refl
 
+abbrev rest : tie.After-size2 → ℕ
+rest c = c .before .size .result % c .size2 .result
+
+rest-fits : (c : tie.After-size2) → rest c < 4294967296
+rest-fits c = omega (arith, mod-le (c .before .size .result) (c .size2 .result))
+
 by-sizes : (c : tie.After-is-negative) (below : Bool) → c .is-negative .result ≡ below
     → remainder (c .before .before .before .before .args .l) (c .before .before .before .before .args .r)
-    ≡ wrapped (cond below (negℤ (pos (c .before .before .size .result % c .before .size2 .result)))
-    (pos (c .before .before .size .result % c .before .size2 .result)))
+    ≡ wrapped (cond below (negℤ (pos (rest (c .before)))) (pos (rest (c .before))))
 unfolding remainder
 by-sizes c below e =
-    let a = c .before .before .before .before .args in
-    rw (sized (signed (a .l)) (signed (a .r)), ← c .before .before .size .ensures, ← c .before .size2 .ensures, ← c .is-negative .ensures, e)
+    let s = c .before in
+    let a = s .before .before .before .args in
+    rw (sized (signed (a .l)) (signed (a .r)), ← s .before .size .ensures, ← s .size2 .ensures, ← c .is-negative .ensures, e)
 
 returns-2 : tie.Need-returns-2
 returns-2 c =
-    let s = c .before .before .before in
-    c .difference .ensures
-    ∙ turned (s .before .size .result % s .size2 .result) (omega (arith, mod-le (s .before .size .result) (s .size2 .result)))
-    ∙ sym (by-sizes (c .before .before) true (c .before .if2 .taken))
+    let n = c .before .before in
+    c .difference .ensures ∙ turned (rest (n .before)) (rest-fits (n .before)) ∙ sym (by-sizes n true (c .before .if2 .taken))
 
 returns-3 : tie.Need-returns-3
-returns-3 c =
-    let s = c .before .before in
-    sym (mod-eq-of-lt {n = s .before .size .result % s .size2 .result} (omega (arith, mod-le (s .before .size .result) (s .size2 .result))))
-    ∙ sym (by-sizes (c .before) false (c .if2 .left))
+returns-3 c = sym (mod-eq-of-lt (rest-fits (c .before .before))) ∙ sym (by-sizes (c .before) false (c .if2 .left))
 
 pub remainder-spec : {M : Type 1} → statement M
 remainder-spec =

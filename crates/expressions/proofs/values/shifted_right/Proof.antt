@@ -8,9 +8,9 @@ use native.Mathlib.Omega.{arith}
 use lib.Dec.{ltb}
 use lib.IntN.{ℤ, pos, negsuc}
 use lib.Signed.{ltZ, shrZ}
-use borrow.Author.Tests.{ltb-true, le-ltb}
-use Rattle.expressions.specs.Values.{signed, wrapped, truth, shiftedRight, shiftedRightUnsigned}
-use Rattle.expressions.proofs.Signs.{by-sign}
+use borrow.Author.Tests.{le-ltb}
+use Rattle.expressions.specs.Values.{wrapped, truth, shiftedRight, shiftedRightUnsigned}
+use Rattle.expressions.proofs.Signs.{if-negative, if-positive}
 use Rattle.expressions.proofs.values.shifted_right.Statement.{statement}
 use Rattle.expressions.proofs.values.shifted_right.Tie as tie
 
@@ -34,18 +34,16 @@ complement : (small : Bool) (n m : ℕ) → n < 4294967296 → 4294967295 - cond
 complement true n m fits = omega (arith, div-le-self n m)
 complement false n m fits = refl
 
-negative : (v by : ℕ) → ltZ (signed v) (pos 0) ≡ true → 4294967295 - shiftedRightUnsigned (4294967295 - v) by ≡ shiftedRight v by
-unfolding shiftedRight shiftedRightUnsigned
-negative v by =
-    by-sign (λ z. ltZ z (pos 0) ≡ true → 4294967295 - shiftedRightUnsigned (4294967295 - v) by ≡ shifted (ltb by 32) z (2 ^ by)) v
-    (λ _ t. absurd (omega (arith, ltb-true v 0 t)))
-    (λ _ _. complement (ltb by 32) (4294967295 - v) (2 ^ by) (omega arith))
-
 returns : tie.Need-returns
+unfolding shiftedRight shiftedRightUnsigned
 returns c =
-    let a = c .before .before .before .args in
-    ap (λ n. 4294967295 - n) (c .shifted-right-unsigned .ensures)
-    ∙ negative (a .v) (a .by) (sym (c .before .before .is-negative .ensures) ∙ c .before .if1 .taken)
+    let n = c .before .before in
+    let v = n .before .args .v in
+    let by = n .before .args .by in
+    ap (λ s. 4294967295 - s) (c .shifted-right-unsigned .ensures)
+    ∙ if-negative (λ z. 4294967295 - shiftedRightUnsigned (4294967295 - v) by ≡ shifted (ltb by 32) z (2 ^ by)) v
+    (sym (n .is-negative .ensures) ∙ c .before .if1 .taken)
+    (λ _. complement (ltb by 32) (4294967295 - v) (2 ^ by) (omega arith))
 
 shifted-right-unsigned-requires-2 : tie.Need-shifted-right-unsigned-requires-2
 shifted-right-unsigned-requires-2 c κs = search needs
@@ -54,18 +52,16 @@ itself : (small : Bool) (n m : ℕ) → n < 4294967296 → cond small (n / m) 0 
 itself true n m fits = omega (arith, div-le-self n m)
 itself false n m fits = rw (le-ltb n 0 zero-le)
 
-positive : (v by : ℕ) → ltZ (signed v) (pos 0) ≡ false → shiftedRightUnsigned v by ≡ shiftedRight v by
-unfolding shiftedRight shiftedRightUnsigned
-positive v by =
-    by-sign (λ z. ltZ z (pos 0) ≡ false → shiftedRightUnsigned v by ≡ shifted (ltb by 32) z (2 ^ by)) v
-    (λ low _. itself (ltb by 32) v (2 ^ by) (omega arith))
-    (λ _ t. cc)
-
 returns-2 : tie.Need-returns-2
+unfolding shiftedRight shiftedRightUnsigned
 returns-2 c =
-    let a = c .before .before .before .args in
+    let n = c .before .before in
+    let v = n .before .args .v in
+    let by = n .before .args .by in
     c .shifted-right-unsigned2 .ensures
-    ∙ positive (a .v) (a .by) (sym (c .before .before .is-negative .ensures) ∙ c .before .if1 .left)
+    ∙ if-positive (λ z. shiftedRightUnsigned v by ≡ shifted (ltb by 32) z (2 ^ by)) v
+    (sym (n .is-negative .ensures) ∙ c .before .if1 .left)
+    (λ low. itself (ltb by 32) v (2 ^ by) (omega arith))
 
 pub shifted-right-spec : {M : Type 1} → statement M
 shifted-right-spec =

@@ -1,7 +1,6 @@
 -- `shifted_right_unsigned` meets its contract: it tests the amount as the definition does.
 use borrow.Author.Needs.{needs}
 use mathlib.Core.Path.{refl}
-use native.Mathlib.Omega.{arith}
 use Rattle.paper.proofs.Choice.{below, not-below}
 use Rattle.expressions.specs.Values.{shiftedRightUnsigned}
 use Rattle.expressions.proofs.values.shifted_right_unsigned.Statement.{statement}
