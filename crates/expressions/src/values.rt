@@ -101,7 +101,7 @@ fn less(l: u32, r: u32) -> bool
 fn at_most(l: u32, r: u32) -> bool
     ensures { λ b. ⌜ b ≡ atMost l r ⌝ }
 {
-    raised(l) <= raised(r)
+    !less(r, l)
 }
 
 fn shifted_left(v: u32, by: u32) -> u32
