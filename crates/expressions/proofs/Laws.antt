@@ -1,5 +1,5 @@
 -- The bytes of a word, texts of other lengths, a token of no bytes, and that a byte which ends no text stands inside it.
-use mathlib.Core.Bool.{Bool, true, false, cond, and-false}
+use mathlib.Core.Bool.{true, false, and-false}
 use mathlib.Core.List.{List, [], _∷_}
 use mathlib.Core.Path.{_≡_, refl, sym, ap}
 use Prim.Native.Nat.{ℕ, suc, zero, _+_, _<_, _≤_}
@@ -13,7 +13,6 @@ use Rattle.paper.specs.Bytes.{ends}
 use Rattle.paper.proofs.Choice.{either}
 use Rattle.paper.proofs.Spaces.{inside}
 use Rattle.variables.specs.Records.{sameBytes}
-use Rattle.expressions.specs.declared.tokens.Lexed.{Lexed}
 use Rattle.expressions.specs.declared.tokens.Token.{Token}
 use Rattle.expressions.specs.Tokens.{wordByte, wordRun, lexed}
 

@@ -5,7 +5,6 @@ use Prim.Native.Nat.{ℕ, _+_, _-_}
 use native.Mathlib.Omega.{arith}
 use borrow.Author.Needs.{needs}
 use lib.ListN.{take, drop}
-use Rattle.expressions.specs.declared.tokens.Lexed.{Lexed}
 use Rattle.expressions.specs.declared.tokens.Token.{Token}
 use Rattle.expressions.specs.Tokens.{wordRun, wordToken, wordAt}
 use Rattle.expressions.proofs.Laws.{word-within}
