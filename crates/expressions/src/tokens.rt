@@ -71,7 +71,7 @@ fn spells_two(word: &[u8], a: u8, b: u8) -> bool
     if word.len() != 2 {
         return false;
     }
-    word[0] == a && word[1] == b
+    a == word[0] && b == word[1]
 }
 
 fn spells_three(word: &[u8], a: u8, b: u8, c: u8) -> bool
@@ -80,7 +80,7 @@ fn spells_three(word: &[u8], a: u8, b: u8, c: u8) -> bool
     if word.len() != 3 {
         return false;
     }
-    word[0] == a && (word[1] == b && word[2] == c)
+    a == word[0] && (b == word[1] && c == word[2])
 }
 
 // The operators that are words, in capitals; every other word is a name.
