@@ -9,14 +9,14 @@ use lib.ListN.{length, take, drop, length-append}
 use lib.Seq.{take-at}
 use borrow.Author.Tests.{ltb-false, ne-eqb}
 use Rattle.paper.specs.Refusals.{longest}
-use Rattle.paper.specs.Traces.{Trace, Run, finished, stopped, bytes, run, fit}
+use Rattle.paper.specs.Traces.{Trace, Run, finished, stopped, bytes, run, fit, allowed}
 use Rattle.paper.specs.declared.TextPlace.{TextPlace}
 use Rattle.paper.proofs.Choice.{either}
 use Rattle.paper.proofs.DemandThree.{stopped-number}
 use Rattle.variables.specs.Tables.{checked}
 use Rattle.variables.specs.declared.Checked.{Checked}
 use Rattle.variables.specs.declared.Checked.the-variants.{Good, Refused as Unsound}
-use Rattle.gs.specs.Translations.{readingOf, allowed, refusedAt, translatedBy, translatedOver, leftBy, translated, outAfter}
+use Rattle.gs.specs.Translations.{readingOf, refusedAt, translatedBy, translatedOver, leftBy, translated, outAfter}
 use Rattle.gs.specs.declared.Translated.{Translated}
 use Rattle.gs.specs.declared.Translated.the-variants.{Written, Refused, BadTable}
 use Rattle.io.specs.Counts.{Counts}

@@ -5,8 +5,8 @@ use Prim.Native.Nat.{ℕ, zero, suc, _+_, _-_, _*_, _≤_}
 use native.Mathlib.Omega.{arith}
 use lib.ListN.{length}
 use Rattle.paper.specs.Traces.{Reference, Trace, asks, spends, enters, bytes, run, behind, finished, stopped}
-use Rattle.gs.specs.Readings.{Meaning, Expand, givesAll, decimalOf, whole, expands}
-use Rattle.gs.specs.Translations.{pattern}
+use Rattle.variables.specs.Names.{Meaning, pattern}
+use Rattle.gs.specs.Readings.{Expand, givesAll, decimalOf, whole, expands}
 use Rattle.gs.specs.Steps.{Laid, Came, went, halted, Read, reached, broken, partOf, pieceOf, behindAt}
 use Rattle.gs.specs.declared.expansion.Referred.{Referred}
 use Rattle.gs.specs.declared.expansion.Referred.the-variants.{Number, TooBig, Unknown, Text, Integer, Macro}

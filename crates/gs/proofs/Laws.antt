@@ -9,15 +9,16 @@ use borrow.Author.Tests.{ltb-true, eqb-false, not-true, ne-eqb}
 use lib.Dec.{ltb, eqb}
 use lib.ListN.{length, getD, drop}
 use lib.Seq.{drop-cons}
+use Rattle.paper.specs.Bytes.{ends}
+use Rattle.paper.proofs.Spaces.{inside}
 use Rattle.variables.specs.Records.{nameByte}
-use Rattle.reader.proofs.Laws.{inside}
 use Rattle.gs.specs.declared.symbols.Mode.{Mode}
 use Rattle.gs.specs.declared.symbols.Mode.the-variants.{Plain, Quoted}
 use Rattle.gs.specs.declared.symbols.Symbol.{Symbol}
 use Rattle.gs.specs.declared.symbols.Symbol.the-variants.{End, Byte}
 use Rattle.gs.specs.Flags.{spaceEnds}
 use Rattle.gs.specs.SymbolSteps.{unmarked, atEnd, other, Ordinary}
-use Rattle.gs.specs.Symbols.{ends, punctuation, code, endingSpace, nameRun, active, plainSymbol, quotedOther, symbolAt}
+use Rattle.gs.specs.Symbols.{punctuation, code, endingSpace, nameRun, active, plainSymbol, quotedOther, symbolAt}
 
 -- a name's byte stands inside the text
 pub name-inside : (text : List ℕ) (at : ℕ) → nameByte (getD text at 0) ≡ true → at < length text

@@ -11,7 +11,7 @@ use lib.Seq.{getD-take, getD-drop}
 use borrow.Author.Tests.{ltb-false}
 use Rattle.paper.specs.Answers.{Answer}
 use Rattle.paper.specs.Refusals.{too-big, longest}
-use Rattle.paper.specs.Traces.{Reference, Trace, ended, refused, gives, asks, spends, enters, bytes, Run, finished, stopped, behind, spending, run, fit, Ending, done, failed, beyond, ending, reached, lookUps}
+use Rattle.paper.specs.Traces.{Reference, Trace, ended, refused, gives, asks, spends, enters, bytes, Run, finished, stopped, behind, spending, run, fit, Ending, done, failed, beyond, ending, reached, lookUps, allowed}
 use Rattle.paper.specs.declared.faults.Fault.{Fault}
 use Rattle.paper.proofs.Choice.{either}
 use Rattle.paper.proofs.DemandThree.{stopped-number, finished-within}
@@ -21,8 +21,8 @@ use Rattle.reader.specs.declared.Reading.the-variants.{Value, Refused}
 use Rattle.numbers.specs.declared.forms.Width.the-variants.{Word}
 use Rattle.numbers.proofs.Bounds.{decimal-short}
 use Rattle.gs.specs.Symbols.{symbolAt, opened}
-use Rattle.gs.specs.Readings.{Meaning, unknown, string-of, integer-of, macro-of, givesAll, decimalOf, Expand, named, content, symbolic, following, whole, expands}
-use Rattle.gs.specs.Translations.{meant, inReading, namesOf, readingOf, allowed, translatedBy, translatedOver, translated, inPaper}
+use Rattle.gs.specs.Readings.{givesAll, decimalOf, Expand, named, content, symbolic, following, whole, expands}
+use Rattle.gs.specs.Translations.{readingOf, translatedBy, translatedOver, translated, inPaper}
 use Rattle.gs.specs.declared.symbols.Mode.{Mode}
 use Rattle.gs.specs.declared.symbols.Opening.{Opening}
 use Rattle.gs.specs.declared.symbols.Symbol.{Symbol}
@@ -30,6 +30,7 @@ use Rattle.gs.specs.declared.symbols.Symbol.the-variants.{End, Byte, Ref
 use Rattle.variables.specs.Records as Records
 use Rattle.variables.specs.Records.{Entry, nothing, means, valueLength, valueStart, valueAt, entryAt}
 use Rattle.variables.specs.Tables.{most, checked, meaningOf}
+use Rattle.variables.specs.Names.{Meaning, unknown, string-of, integer-of, macro-of, meant, inReading, namesOf}
 use Rattle.variables.specs.declared.Checked.{Checked}
 use Rattle.variables.specs.declared.Checked.the-variants.{Good, Refused as Unsound}
 use Rattle.variables.proofs.Bounds.{Bounded, checked-bounded}

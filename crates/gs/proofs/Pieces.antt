@@ -18,8 +18,8 @@ use Rattle.reader.specs.declared.Reading.the-variants.{Value, Refused}
 use Rattle.variables.specs.Records as Records
 use Rattle.variables.specs.Records.{Entry, nothing, means, nextPlace, valueLength, valueAt, entryAt, entries, meaning, sameName}
 use Rattle.variables.specs.Tables.{most, meaningOf, variableAt}
-use Rattle.gs.specs.Readings.{Expand, givesAll, decimalOf, string-of, integer-of, macro-of, named, content}
-use Rattle.gs.specs.Translations.{pattern, meant, inReading, namesOf}
+use Rattle.variables.specs.Names.{string-of, integer-of, macro-of, pattern, meant, inReading, namesOf}
+use Rattle.gs.specs.Readings.{Expand, givesAll, decimalOf, named, content}
 use Rattle.gs.specs.Steps.{Laid, Passes, partOf, kinded, variableAs, referredAs, referredIn, pieceOf, lengthIn}
 use Rattle.gs.specs.declared.expansion.Referred.the-variants.{TooBig, Text, Integer, Macro}
 

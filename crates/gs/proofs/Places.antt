@@ -6,11 +6,11 @@ use Prim.Native.Nat.{ℕ, _+_, _<_, _≤_}
 use native.Mathlib.Omega.{arith}
 use borrow.Author.Tests.{ltb-true, leb-false, eqb-true, eqb-false}
 use lib.Dec.{ltb, leb, eqb}
-use lib.ListN.{length, getD, drop, length-drop}
+use lib.ListN.{length, getD, drop}
+use Rattle.paper.specs.Bytes.{spaces, ends}
 use Rattle.paper.specs.declared.faults.Fault.the-variants.{BadCode}
 use Rattle.paper.proofs.Choice.{either}
-use Rattle.reader.specs.Reading.{spaces}
-use Rattle.reader.proofs.Laws.{inside, spaces-within}
+use Rattle.paper.proofs.Spaces.{inside, spaces-within, skipped-within}
 use Rattle.gs.specs.declared.symbols.Mode.{Mode}
 use Rattle.gs.specs.declared.symbols.Mode.the-variants.{Plain, Quoted}
 use Rattle.gs.specs.declared.symbols.Opening.{Opening}
@@ -18,7 +18,7 @@ use Rattle.gs.specs.declared.symbols.Symbol.{Symbol}
 use Rattle.gs.specs.declared.symbols.Symbol.the-variants.{End, Byte, Reference, Bad}
 use Rattle.gs.specs.Flags.{spaceEnds, barPlain, quotePlain}
 use Rattle.gs.specs.SymbolSteps.{atEnd, other}
-use Rattle.gs.specs.Symbols.{ends, code, coded, topped, toppedCode, endingSpace, toppedSymbol, barred, nameRun, referred, closed, active, quotedOther, symbolAt, opened, bad as badly}
+use Rattle.gs.specs.Symbols.{code, coded, topped, toppedCode, endingSpace, toppedSymbol, barred, nameRun, referred, closed, active, quotedOther, symbolAt, opened, bad as badly}
 use Rattle.gs.proofs.Laws.{uncoded, symbol-tested}
 
 -- in a text of so many bytes, for a symbol at a place of it
@@ -122,7 +122,7 @@ module _ (text : List ℕ) (flags : ℕ) (mode : Mode) (at : ℕ) (bytes : (k : 
   unfolding closed
   closed-stands h =
       let end = at + 1 + spaces (drop (at + 1) text) in
-      let far : end ≤ length text = omega (arith, spaces-within (drop (at + 1) text), length-drop (at + 1) text) in
+      let far : end ≤ length text = skipped-within text (at + 1) h in
       either S (spaceEnds flags)
       (λ _. either S (ends (getD text (at + 1) 0) || eqb (getD text (at + 1) 0) 32) (λ _. omega arith) (λ _. omega arith))
       (λ _. either S (ends (getD text end 0)) (λ _. omega arith) (λ _. omega arith))

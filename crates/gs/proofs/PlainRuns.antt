@@ -11,12 +11,13 @@ use lib.Dec.{eqb}
 use lib.ListN.{length, getD, take, drop, length-append, length-take, length-drop}
 use lib.Seq.{drop-cons}
 use Rattle.paper.specs.Traces.{Trace, gives, bytes, run}
+use Rattle.variables.specs.Names.{Meaning}
 use Rattle.gs.specs.declared.symbols.Mode.{Mode}
 use Rattle.gs.specs.declared.symbols.Mode.the-variants.{Plain, Quoted}
 use Rattle.gs.specs.Flags.{spaceEnds}
 use Rattle.gs.specs.Symbols.{endingSpace}
 use Rattle.gs.specs.SymbolSteps.{PlainByte, Stretch, alsoEnds}
-use Rattle.gs.specs.Readings.{Meaning, Expand, symbolic, following}
+use Rattle.gs.specs.Readings.{Expand, symbolic, following}
 use Rattle.gs.specs.Steps.{Laid}
 use Rattle.gs.proofs.Laws.{ordinary-byte}
 use Rattle.gs.proofs.Pieces.{laid-more}

@@ -10,9 +10,9 @@ use Rattle.paper.specs.Traces.{numberOf, Trace, bytes, run, stopped}
 use Rattle.paper.specs.declared.TextPlace.{TextPlace}
 use Rattle.paper.specs.declared.faults.Fault.{Fault}
 use Rattle.reader.specs.Reading.{reading}
+use Rattle.variables.specs.Names.{Meaning, namesOf}
 use Rattle.gs.specs.Symbols.{symbolAt, opened}
-use Rattle.gs.specs.Readings.{Meaning, Expand, content, symbolic, following, whole}
-use Rattle.gs.specs.Translations.{namesOf}
+use Rattle.gs.specs.Readings.{Expand, content, symbolic, following, whole}
 use Rattle.gs.specs.Steps.{Laid, Passes, Came, went, halted, Read, reached, broken, referredIn, pieceOf}
 use Rattle.gs.specs.declared.symbols.Mode.{Mode}
 use Rattle.gs.specs.declared.symbols.Opening.{Opening}

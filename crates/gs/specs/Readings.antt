@@ -13,18 +13,12 @@ use Rattle.numbers.specs.declared.forms.Width.the-variants.{Word}
 use Rattle.reader.specs.Reading.{reading, numberOf}
 use Rattle.reader.specs.declared.Reading.the-variants.{Value, Refused}
 use Rattle.reader.specs.declared.Reading.{Reading as Read}
+use Rattle.variables.specs.Names.{Meaning, unknown, string-of, integer-of, macro-of}
 use Rattle.gs.specs.Symbols.{symbolAt, opened}
 use Rattle.gs.specs.declared.symbols.Mode.{Mode}
 use Rattle.gs.specs.declared.symbols.Symbol.{Symbol}
 use Rattle.gs.specs.declared.symbols.Symbol.the-variants.{End, Byte, Reference as Names, Bad}
 use Rattle.gs.specs.declared.symbols.Opening.{Opening}
-
--- what a name means, by value
-pub data Meaning : Type 0 where
-  unknown : Meaning
-  string-of : List ℕ → Meaning
-  integer-of : ℕ → Meaning
-  macro-of : List ℕ → Meaning
 
 -- bytes given one behind the other
 abbrev pub givesAll : List ℕ → Trace → Trace

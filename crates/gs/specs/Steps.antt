@@ -15,9 +15,9 @@ use Rattle.reader.specs.declared.Reading.the-variants.{Value, Refused}
 use Rattle.variables.specs.Records as Records
 use Rattle.variables.specs.Records.{Entry, nothing, means}
 use Rattle.variables.specs.Tables.{meaningOf, variableAt}
+use Rattle.variables.specs.Names.{pattern}
 use Rattle.variables.specs.declared.Variable.{Variable}
 use Rattle.gs.specs.Readings.{Expand, givesAll, decimalOf}
-use Rattle.gs.specs.Translations.{pattern}
 use Rattle.gs.specs.declared.expansion.Referred.{Referred}
 use Rattle.gs.specs.declared.expansion.Referred.the-variants.{Number, TooBig, Unknown, Text, Integer, Macro}
 use Rattle.gs.specs.declared.expansion.Progress.{Progress}

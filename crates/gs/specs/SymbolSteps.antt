@@ -5,9 +5,10 @@ use mathlib.Core.List.{List}
 use Prim.Native.Nat.{ℕ, _≤_, _<_}
 use lib.Dec.{ltb, eqb}
 use lib.ListN.{length, getD}
+use Rattle.paper.specs.Bytes.{ends}
 use Rattle.paper.specs.declared.faults.Fault.the-variants.{BadString}
 use Rattle.gs.specs.Flags.{has}
-use Rattle.gs.specs.Symbols.{ends, bad, endingSpace, plainSymbol, quotedOther}
+use Rattle.gs.specs.Symbols.{bad, endingSpace, plainSymbol, quotedOther}
 use Rattle.gs.specs.declared.symbols.Mode.{Mode}
 use Rattle.gs.specs.declared.symbols.Mode.the-variants.{Plain, Quoted}
 use Rattle.gs.specs.declared.symbols.Symbol.{Symbol}

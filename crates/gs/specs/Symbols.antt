@@ -5,9 +5,9 @@ use mathlib.Core.List.{List, [], _∷_}
 use Prim.Native.Nat.{ℕ, suc, _+_, _-_}
 use lib.Dec.{ltb, leb, eqb}
 use lib.ListN.{length, getD, drop}
+use Rattle.paper.specs.Bytes.{spaces, among, ends}
 use Rattle.paper.specs.declared.faults.Fault.{Fault}
 use Rattle.paper.specs.declared.faults.Fault.the-variants.{BadCode, BadString, BadReference}
-use Rattle.reader.specs.Reading.{spaces, among}
 use Rattle.variables.specs.Records.{nameByte}
 use Rattle.gs.specs.Flags.{spaceEnds, barPlain, quotePlain}
 use Rattle.gs.specs.declared.symbols.Mode.{Mode}
@@ -15,10 +15,6 @@ use Rattle.gs.specs.declared.symbols.Mode.the-variants.{Plain, Quoted}
 use Rattle.gs.specs.declared.symbols.Symbol.{Symbol}
 use Rattle.gs.specs.declared.symbols.Symbol.the-variants.{End, Byte, Reference, Bad}
 use Rattle.gs.specs.declared.symbols.Opening.{Opening}
-
--- 0, 10 and 13 end a text
-abbrev pub ends : ℕ → Bool
-ends c = eqb c 0 || (eqb c 10 || eqb c 13)
 
 -- the code behind "|", 256 for none. "@" is 0; letters 1 to 26; "[" "{" 27; "\" 28; "]" "}" 29; "^" "~" 30; "_" "'" 31; "?" 127; "|", "<"
 -- and the quote stand for themselves

@@ -1,44 +1,23 @@
 -- What a translation answers, and what it leaves in the buffer.
 use mathlib.Core.Bool.{cond}
 use mathlib.Core.List.{List, _++_}
-use Prim.Native.Nat.{ℕ, _+_, _*_, min}
+use Prim.Native.Nat.{ℕ}
 use lib.Dec.{ltb, eqb}
-use lib.ListN.{length, getD, drop}
+use lib.ListN.{length, drop}
 use Rattle.paper.specs.Answers.{Answer}
 use Rattle.paper.specs.Refusals.{over-length, longest}
-use Rattle.paper.specs.Traces.{Trace, bytes, answer}
-use Rattle.variables.specs.Records.{Entry, nothing, means}
-use Rattle.variables.specs.Records as Records
-use Rattle.variables.specs.Tables.{checked, meaningOf}
+use Rattle.paper.specs.Traces.{Trace, bytes, answer, allowed}
+use Rattle.variables.specs.Tables.{checked}
+use Rattle.variables.specs.Names.{namesOf}
 use Rattle.variables.specs.declared.Checked.{Checked}
 use Rattle.variables.specs.declared.Checked.the-variants.{Good, Refused as Unsound}
-use Rattle.gs.specs.Readings.{Meaning, unknown, string-of, integer-of, macro-of, read}
+use Rattle.gs.specs.Readings.{read}
 use Rattle.gs.specs.declared.Translated.{Translated}
 use Rattle.gs.specs.declared.Translated.the-variants.{Written, Refused, BadTable}
-
--- four bytes, the lowest first, as a 32-bit pattern
-abbrev pub pattern : List ℕ → ℕ
-pattern bytes = getD bytes 0 0 + 256 * getD bytes 1 0 + 65536 * getD bytes 2 0 + 16777216 * getD bytes 3 0
-
--- kind 0 is a string, 1 an integer, 2 a macro
-unfoldable pub meant : Entry → Meaning
-meant e = cond (eqb (e .kind) 0) (string-of (e .value)) (cond (eqb (e .kind) 1) (integer-of (pattern (e .value))) (macro-of (e .value)))
-
-abbrev pub inReading : Records.Meaning → Meaning
-inReading nothing = unknown
-inReading (means e) = meant e
-
--- what names mean in a table
-abbrev pub namesOf : List ℕ → List ℕ → Meaning
-namesOf table name = inReading (meaningOf table name)
 
 -- 01's reading of a text over a table
 abbrev pub readingOf : List ℕ → List ℕ → ℕ → Trace
 readingOf text table flags = read (namesOf table) text flags
-
--- the allowance is 0 to 1,024; more counts as 1,024
-abbrev pub allowed : ℕ → ℕ
-allowed allowance = min allowance 1024
 
 abbrev pub refusedAt : ℕ → ℕ → ℕ → ℕ → Translated
 refusedAt number place need free = Refused number (record { 0 = place }) need free

@@ -1,32 +1,14 @@
-// The bytes of a text: one by its place, what kind it is, and runs of one kind.
+// The bytes of a text: what kind one is, and runs of one kind.
 ghost use mathlib.Core.Path.{_≡_};
 ghost use Prim.Native.Nat.{_+_};
-ghost use lib.ListN.{getD, drop};
-ghost use Rattle.reader.specs.Reading.{spaces, among};
+ghost use lib.ListN.{drop};
 ghost use Rattle.gs.specs.SymbolSteps.{unmarked, stops, marks};
-ghost use Rattle.gs.specs.Symbols.{ends, endingSpace, nameRun};
+ghost use Rattle.gs.specs.Symbols.{endingSpace, nameRun};
 use crate::flags::Flags;
 use crate::symbols::Mode;
+use paper::bytes::byte;
+use paper::bytes::is_end;
 use variables::names::is_name_byte;
-
-// The byte at a place, 0 past the slice's end.
-pub(crate) fn byte(text: &[u8], at: usize) -> u8
-    ensures { λ r. ⌜ r ≡ getD (now (text .entry)) at 0 ⌝ }
-{
-    if at < text.len() { text[at] } else { 0 }
-}
-
-pub(crate) fn among(low: u8, high: u8, c: u8) -> bool
-    ensures { λ r. ⌜ r ≡ among low high c ⌝ }
-{
-    low <= c && c <= high
-}
-
-pub(crate) fn is_end(c: u8) -> bool
-    ensures { λ r. ⌜ r ≡ ends c ⌝ }
-{
-    c == 0 || (c == 10 || c == 13)
-}
 
 // Whether a byte is itself in every text: most are, and this is the quickest test that finds those.
 pub(crate) fn is_unmarked(c: u8) -> bool
@@ -57,17 +39,6 @@ pub(crate) fn is_mark(mark: u8, flags: Flags, bit: u32, c: u8) -> bool
     ensures { λ r. ⌜ r ≡ marks mark (flags .0) bit c ⌝ }
 {
     c == mark && !flags.has(bit)
-}
-
-// The first place from `start` on whose byte is no space.
-pub(crate) fn skip_spaces(text: &[u8], start: usize) -> usize
-    ensures { λ r. ⌜ r ≡ start + spaces (drop start (now (text .entry))) ⌝ }
-{
-    let mut at = start;
-    while byte(text, at) == b' ' {
-        at += 1;
-    }
-    at
 }
 
 // The first place from `start` on whose byte no name may have.

@@ -4,14 +4,14 @@ ghost use Prim.Native.Nat.{_≤_};
 ghost use lib.ListN.{length};
 ghost use Rattle.gs.specs.SymbolSteps.{bare};
 ghost use Rattle.gs.specs.Symbols.{punctuation, code, coded, topped, toppedCode, toppedSymbol, barred};
-use crate::bytes::among;
-use crate::bytes::byte;
-use crate::bytes::is_end;
 use crate::bytes::is_ending_space;
 use crate::flags::Flags;
 use crate::symbols::Mode;
 use crate::symbols::Symbol;
 use crate::symbols::bad;
+use paper::bytes::among;
+use paper::bytes::byte;
+use paper::bytes::is_end;
 use paper::faults::Fault;
 
 // What a code that is no letter stands for; 256 where it is none.

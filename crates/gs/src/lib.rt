@@ -3,7 +3,7 @@ ghost use mathlib.Core.Path.{_≡_};
 ghost use Prim.Native.Nat.{_≤_};
 ghost use lib.ListN.{length};
 ghost use Rattle.paper.specs.Traces.{bytes, answer};
-ghost use Rattle.gs.specs.Translations.{readingOf, allowed, refusedAt, translatedBy, leftBy, translated, outAfter};
+ghost use Rattle.gs.specs.Translations.{readingOf, refusedAt, translatedBy, leftBy, translated, outAfter};
 
 mod bytes;
 mod codes;
@@ -21,6 +21,7 @@ use paper::NO_ROOM;
 use paper::OVER_LENGTH;
 use paper::RecordPlace;
 use paper::TextPlace;
+use paper::allowance::cap;
 use variables::Checked;
 
 // What a translation answers.
@@ -57,16 +58,6 @@ fn refused(number: u8, place: usize, need: usize, free: usize) -> Translated
         need,
         free,
     }
-}
-
-// The look-ups that are allowed: more than 1,024 counts as 1,024.
-fn cap(allowance: u32) -> u32
-    ensures { λ r. ⌜ (r ≡ allowed allowance) × (r ≤ 1024) ⌝ }
-{
-    if allowance < 1024 {
-        return allowance;
-    }
-    1024
 }
 
 // A text over a good table. The first pass is lent nothing and measures; only when all of it has room does the second write.

@@ -4,15 +4,15 @@ ghost use mathlib.Core.Bool.{cond};
 ghost use mathlib.Core.List.{List};
 ghost use Prim.Native.Nat.{ℕ, _≤_, _^_};
 ghost use lib.Dec.{eqb};
-ghost use lib.ListN.{length, getD};
+ghost use lib.ListN.{length};
 ghost use Rattle.paper.specs.Refusals.{«too-big»};
 ghost use Rattle.paper.specs.Traces.{asks, spends};
 ghost use Rattle.numbers.specs.Strings.{string};
 ghost use Rattle.reader.specs.Reading.{numberOf};
 ghost use Rattle.variables.specs.Records as Records;
 ghost use Rattle.variables.specs.Tables.{foundAs, meaningOf};
+ghost use Rattle.variables.specs.Names.{pattern};
 ghost use Rattle.gs.specs.Readings.{givesAll, decimalOf};
-ghost use Rattle.gs.specs.Translations.{pattern};
 ghost use Rattle.gs.specs.Steps.{Came, kinded, variableAs, referredIn};
 ghost use Rattle.gs.specs.declared.expansion.Referred.the-variants as Referred;
 use crate::expansion::Progress;
@@ -27,6 +27,7 @@ use paper::TOO_BIG;
 use reader::Reading;
 use variables::Found;
 use variables::Variable;
+use variables::integers::pattern_of;
 
 fn by_kind(v: Variable) -> Referred
     ensures { λ r. ⌜ r ≡ kinded (v .kind) v ⌝ }
@@ -98,23 +99,6 @@ pub(crate) fn give(given: &[u8], left: u32, place: usize, at: usize, out: &mut [
         at: at + given.len(),
         left: left - 1,
     }
-}
-
-// The byte at a place of a value, 0 past its end.
-fn byte(value: &[u8], at: usize) -> u32
-    ensures { λ r. ⌜ (r ≡ getD (now (value .entry)) at 0) × (r ≤ 255) ⌝ }
-{
-    if at < value.len() {
-        return value[at] as u32;
-    }
-    0
-}
-
-// Four bytes, the lowest first.
-fn pattern_of(value: &[u8]) -> u32
-    ensures { λ r. ⌜ r ≡ pattern (now (value .entry)) ⌝ }
-{
-    byte(value, 0) + 256 * byte(value, 1) + 65536 * byte(value, 2) + 16777216 * byte(value, 3)
 }
 
 // The signed decimal of an integer variable, for one look-up.

@@ -4,17 +4,17 @@ ghost use Prim.Native.Nat.{_≤_};
 ghost use lib.ListN.{length};
 ghost use Rattle.gs.specs.SymbolSteps.{endedAt, atEnd, other};
 ghost use Rattle.gs.specs.Symbols.{bad, referred, closed, quotedOther, symbolAt, opened};
-use crate::bytes::byte;
-use crate::bytes::is_end;
 use crate::bytes::is_ending_space;
 use crate::bytes::is_mark;
 use crate::bytes::is_stop;
 use crate::bytes::is_unmarked;
 use crate::bytes::skip_name;
-use crate::bytes::skip_spaces;
 use crate::codes::barred;
 use crate::flags::Flags;
 use paper::TextPlace;
+use paper::bytes::byte;
+use paper::bytes::is_end;
+use paper::bytes::skip_spaces;
 use paper::faults::Fault;
 
 // How a text is read: as it stands, or as a quoted string whose open quote stands at a place.

@@ -9,13 +9,13 @@ use lib.ListN.{length, drop}
 use borrow.Author.Tests.{eqb-true}
 use Rattle.paper.specs.Answers.{Answer, Grown}
 use Rattle.paper.specs.Refusals.{no-room, allowance-spent, over-length, longest}
-use Rattle.paper.specs.Traces.{Trace, bytes, answer}
+use Rattle.paper.specs.Traces.{Trace, bytes, answer, allowed}
 use Rattle.paper.proofs.Choice.{below, not-below}
 use Rattle.paper.proofs.DemandThree.{more-room, more-allowance, no-room-exactly, no-room-need, spent-exactly}
 use Rattle.variables.specs.Tables.{checked}
 use Rattle.variables.specs.declared.Checked.the-variants.{Refused as Unsound}
 use Rattle.paper.specs.declared.RecordPlace.{RecordPlace}
-use Rattle.gs.specs.Translations.{readingOf, allowed, translatedBy, translatedOver, leftBy, translated, outAfter, inPaper}
+use Rattle.gs.specs.Translations.{readingOf, translatedBy, translatedOver, leftBy, translated, outAfter, inPaper}
 use Rattle.gs.specs.declared.Translated.{Translated}
 use Rattle.gs.specs.declared.Translated.the-variants.{Written, Refused, BadTable}
 use Rattle.promises.specs.Allowed.{Translates}

@@ -20,10 +20,11 @@ use Rattle.reader.specs.declared.Reading.{Reading}
 use Rattle.paper.specs.Traces as Traces
 use Rattle.variables.specs.Records.{headed, sized, fitting, nameAt, valueAt, nameByte, small, sameName, entryAt, entries, meaning}
 use Rattle.variables.specs.Tables.{sound, scanned, checked}
+use Rattle.variables.specs.Names.{meant}
 use Rattle.gs.specs.Symbols.{symbolAt, active, barred, code, coded, punctuation, toppedCode, toppedSymbol, referred, closed, quotedOther, opened}
 use Rattle.gs.specs.Readings.{named, content, symbolic, following, whole, expands}
 use Rattle.gs.specs.Translations as Translations
-use Rattle.gs.specs.Translations.{readingOf, meant, leftBy, translated, outAfter}
+use Rattle.gs.specs.Translations.{readingOf, leftBy, translated, outAfter}
 use Rattle.promises.specs.Allowed.{Converts, Reads, Translates}
 use Rattle.promises.specs.Examples.{Row, writes, lacks, reads, refuses, translates, Holds, All, examples}
 use Rattle.promises.specs.Texts.{bytes}

@@ -6,10 +6,10 @@ use Prim.Native.Nat.{ℕ, _+_, _≤_, _<_}
 use lib.ListN.{length, drop}
 use Rattle.paper.specs.Answers.{Answer, Grown}
 use Rattle.paper.specs.Refusals.{no-room, allowance-spent, over-length, longest}
-use Rattle.paper.specs.Traces.{Trace, bytes, answer, Ending, done, ending, lookUps}
+use Rattle.paper.specs.Traces.{Trace, bytes, answer, Ending, done, ending, lookUps, allowed}
 use Rattle.variables.specs.Tables.{checked}
 use Rattle.variables.specs.declared.Checked.the-variants.{Good, Refused as Unsound}
-use Rattle.gs.specs.Translations.{readingOf, allowed, inPaper}
+use Rattle.gs.specs.Translations.{readingOf, inPaper}
 use Rattle.paper.specs.declared.TextPlace.{TextPlace}
 use Rattle.paper.specs.declared.RecordPlace.{RecordPlace}
 use Rattle.gs.specs.declared.Translated.{Translated}

@@ -8,10 +8,12 @@ use borrow.Author.Tests.{ltb-false, eqb-true}
 use lib.Dec.{ltb, eqb}
 use lib.ListN.{length, getD, drop}
 use Rattle.paper.specs.Refusals.{longest}
+use Rattle.paper.specs.Bytes.{spaces}
 use Rattle.reader.specs.declared.Reading.{Reading}
-use Rattle.reader.specs.Reading.{numberOf, placeOf, valueOf, numbers, run, goesOn, judged, based, behind, marked, numbered, reading, spaces}
+use Rattle.reader.specs.Reading.{numberOf, placeOf, valueOf, numbers, run, goesOn, judged, based, behind, marked, numbered, reading}
 use Rattle.paper.proofs.Choice.{either}
-use Rattle.reader.proofs.Laws.{inside, spaces-within, run-within}
+use Rattle.paper.proofs.Spaces.{inside, spaces-within}
+use Rattle.reader.proofs.Laws.{run-within}
 
 pub record Bounded (r : Reading) : Type 0 where
   pub number : numberOf r ≤ 18

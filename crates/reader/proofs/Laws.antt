@@ -1,52 +1,30 @@
--- What the proofs share: a text from a place on, the spaces and the digits that stand there, and values that are cut.
+-- What the proofs share: the digits that stand in a text from a place on, and values that are cut.
 use mathlib.Core.Bool.{Bool, true, false, cond}
 use mathlib.Core.List.{List, [], _∷_}
-use mathlib.Core.Path.{_≡_, refl}
+use mathlib.Core.Path.{_≡_}
 use Prim.Native.Nat.{ℕ, suc, zero, zero-le, suc-le-suc, _+_, _*_, _<_, _≤_}
 use native.Mathlib.Nat.{le-mul-of-pos-right, min-eq-left, min-eq-right}
 use native.Mathlib.Decide.{decLe}
 use native.Mathlib.Numerals.{add-one}
 use native.Mathlib.Omega.{arith}
-use borrow.Author.Tests.{lt-ltb, le-ltb, eq-eqb, ne-eqb}
-use lib.Dec.{ltb, eqb}
+use borrow.Author.Tests.{lt-ltb, le-ltb}
+use lib.Dec.{ltb}
 use lib.ListN.{length, getD, drop, length-drop, drop-of-length-le}
 use lib.Seq.{drop-cons}
 use Rattle.paper.proofs.Choice.{either}
-use Rattle.reader.specs.Reading.{spaces, digit, run, judged, behind}
+use Rattle.reader.specs.Reading.{digit, run, judged, behind}
 use Rattle.reader.specs.Steps.{cut}
 
--- a byte that is not zero stands inside the text
-pub inside : (text : List ℕ) (at : ℕ) → 0 < getD text at 0 → at < length text
-inside [] at h = omega arith
-inside (x ∷ xs) zero h = omega arith
-inside (x ∷ xs) (suc at) h = omega (arith, inside xs at h)
+module _ (text : List ℕ) (at base : ℕ) where
+  pub run-end : length text ≤ at → run base (drop at text) ≡ []
+  run-end h = rw (drop-of-length-le text h)
 
-pub space-none : (text : List ℕ) (at : ℕ) → (getD text at 0 ≡ 32 → ⊥) → spaces (drop at text) ≡ 0
-space-none [] zero n = refl
-space-none [] (suc at) n = refl
-space-none (x ∷ xs) zero n = rw (ne-eqb x 32 n)
-space-none (x ∷ xs) (suc at) n = space-none xs at n
+  module _ {d : ℕ} (h : at < length text) (e : d ≡ digit (getD text at 0)) where
+    pub run-none : base ≤ d → run base (drop at text) ≡ []
+    run-none l = rw (drop-cons text at 0, ← e, le-ltb d base)
 
-module _ (text : List ℕ) (at : ℕ) where
-  pub space-more : getD text at 0 ≡ 32 → spaces (drop at text) ≡ suc (spaces (drop (at + 1) text))
-  space-more e =
-      let h : at < length text = inside text at (omega arith) in
-      rw (add-one, drop-cons text at 0, eq-eqb (getD text at 0) 32)
-
-  module _ (base : ℕ) where
-    pub run-end : length text ≤ at → run base (drop at text) ≡ []
-    run-end h = rw (drop-of-length-le text h)
-
-    module _ {d : ℕ} (h : at < length text) (e : d ≡ digit (getD text at 0)) where
-      pub run-none : base ≤ d → run base (drop at text) ≡ []
-      run-none l = rw (drop-cons text at 0, ← e, le-ltb d base)
-
-      pub run-more : d < base → run base (drop at text) ≡ d ∷ run base (drop (at + 1) text)
-      run-more l = rw (add-one, drop-cons text at 0, ← e, lt-ltb d base)
-
-pub spaces-within : (text : List ℕ) → spaces text ≤ length text
-spaces-within [] = omega arith
-spaces-within (x ∷ xs) = either (λ n. n ≤ suc (length xs)) (eqb x 32) (λ _. omega (arith, spaces-within xs)) (λ _. omega arith)
+    pub run-more : d < base → run base (drop at text) ≡ d ∷ run base (drop (at + 1) text)
+    run-more l = rw (add-one, drop-cons text at 0, ← e, lt-ltb d base)
 
 run-length : (base : ℕ) (text : List ℕ) → length (run base text) ≤ length text
 run-length base [] = omega arith

@@ -12,6 +12,7 @@ use lib.ListN.{length, getD, drop}
 use lib.Seq.{getD-append-add, getD-drop}
 use borrow.Author.Tests.{lt-ltb, le-ltb, le-leb, lt-leb, ne-eqb}
 use Rattle.paper.specs.Refusals.{longest}
+use Rattle.paper.specs.Bytes.{spaces}
 use Rattle.numbers.specs.Digits.{glyph, digits}
 use Rattle.numbers.specs.Strings.{radix, bits, used, count, string}
 use Rattle.numbers.specs.Calls.{hex, binary}
@@ -22,11 +23,11 @@ use Rattle.numbers.specs.declared.forms.Width.the-variants.{Nibble, Byte, TwoBy
 use Rattle.numbers.specs.declared.forms.Base.{Base}
 use Rattle.numbers.specs.declared.forms.Base.the-variants.{Two, Ten, Sixteen}
 use Rattle.paper.proofs.Choice.{skip, other, not-below}
+use Rattle.paper.proofs.Spaces.{space-none}
 use Rattle.numbers.proofs.Laws.{below-power, enough-from, enough-holds, digits-length}
 use Rattle.numbers.proofs.Bounds.{bits-range, used-below, span-word}
 use Rattle.numbers.proofs.Families.{Family, in-hex, in-binary, in-decimal}
-use Rattle.reader.proofs.Laws.{space-none}
-use Rattle.reader.specs.Reading.{spaces, digit, run, worth, goesOn, judged, based, behind, marked, numbered, reading, valued, lead}
+use Rattle.reader.specs.Reading.{digit, run, worth, goesOn, judged, based, behind, marked, numbered, reading, valued, lead}
 
 -- the digits' own values
 values : ℕ → ℕ → ℕ → List ℕ

@@ -1,22 +1,15 @@
 -- What the unsigned reader answers, in the paper's order: spaces, the form of the number, its digits, its value.
 use mathlib.Core.Bool.{Bool, cond, _&&_, _||_}
 use mathlib.Core.List.{List, [], _∷_}
-use Prim.Native.Nat.{ℕ, suc, _+_, _-_, _*_}
-use lib.Dec.{ltb, leb, eqb}
+use Prim.Native.Nat.{ℕ, _+_, _-_, _*_}
+use lib.Dec.{ltb, eqb}
 use lib.ListN.{length, getD, drop}
 use Rattle.paper.specs.Refusals.{no-digit, bad-base, too-big, not-ended, over-limit, over-length, longest}
+use Rattle.paper.specs.Bytes.{spaces, among}
 use Rattle.numbers.specs.declared.forms.Base.{Base}
 use Rattle.numbers.specs.declared.forms.Base.the-variants.{Two, Ten, Sixteen}
 use Rattle.reader.specs.declared.Reading.{Reading}
 use Rattle.reader.specs.declared.Reading.the-variants.{Value, Refused}
-
--- how many spaces a text starts with
-abbrev pub spaces : List ℕ → ℕ
-spaces [] = 0
-spaces (x ∷ xs) = cond (eqb x 32) (suc (spaces xs)) 0
-
-abbrev pub among : ℕ → ℕ → ℕ → Bool
-among low high c = leb low c && leb c high
 
 -- a byte as a digit, letters of either case from 10; every other byte is 36, no digit of any base
 unfoldable pub digit : ℕ → ℕ

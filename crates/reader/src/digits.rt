@@ -1,32 +1,15 @@
-// The bytes of a number: spaces before it, digits of a base, and what they are worth.
+// The bytes of a number: digits of a base, and what they are worth.
 ghost use mathlib.Core.Path.{_≡_};
 ghost use Prim.Native.Nat.{_+_, _*_, _≤_};
-ghost use lib.ListN.{length, getD, drop};
-ghost use Rattle.reader.specs.Reading.{spaces, digit, run, worth, marked};
+ghost use lib.ListN.{length, drop};
+ghost use Rattle.reader.specs.Reading.{digit, run, worth, marked};
 ghost use Rattle.reader.specs.Steps.{cut};
+use paper::bytes::byte;
 
 // Digits that were read: where the first byte stands that is none, and what they are worth, cut at 4294967296.
 pub struct Run {
     pub value: u64,
     pub end: usize,
-}
-
-// The byte at a place, 0 past the slice's end.
-pub(crate) fn byte(text: &[u8], at: usize) -> u8
-    ensures { λ r. ⌜ r ≡ getD (now (text .entry)) at 0 ⌝ }
-{
-    if at < text.len() { text[at] } else { 0 }
-}
-
-// The place of the first byte that is no space.
-pub(crate) fn skip_spaces(text: &[u8]) -> usize
-    ensures { λ r. ⌜ r ≡ spaces (now (text .entry)) ⌝ }
-{
-    let mut at = 0;
-    while byte(text, at) == b' ' {
-        at += 1;
-    }
-    at
 }
 
 // A byte as a digit; 36 where it is none.

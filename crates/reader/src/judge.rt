@@ -4,12 +4,12 @@ ghost use Rattle.reader.specs.Reading.{refused, goesOn, judged};
 use crate::Number;
 use crate::Reading;
 use crate::digits::Run;
-use crate::digits::byte;
 use paper::NO_DIGIT;
 use paper::NOT_ENDED;
 use paper::OVER_LIMIT;
 use paper::TOO_BIG;
 use paper::TextPlace;
+use paper::bytes::byte;
 
 pub(crate) fn refused(number: u8, at: usize) -> Reading
     ensures { λ r. ⌜ r ≡ refused number at ⌝ }

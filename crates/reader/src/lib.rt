@@ -9,6 +9,8 @@ use paper::BAD_BASE;
 use paper::LONGEST;
 use paper::OVER_LENGTH;
 use paper::TextPlace;
+use paper::bytes::byte;
+use paper::bytes::skip_spaces;
 
 // A value that was read, and the place of the first byte behind it.
 pub struct Number {
@@ -28,8 +30,8 @@ pub fn read_unsigned(text: &[u8], whole: bool, limit: u32) -> Reading
     if LONGEST < text.len() {
         return judge::refused(OVER_LENGTH, 0);
     }
-    let start = digits::skip_spaces(text);
-    if digits::byte(text, start) == b'&' {
+    let start = skip_spaces(text, 0);
+    if byte(text, start) == b'&' {
         return based(text, whole, limit, start, start + 1, 16);
     }
     let lead = digits::run_from(text, start, 10);

@@ -7,15 +7,9 @@ ghost use Rattle.variables.specs.Tables.{variableAt};
 use crate::Variable;
 use crate::names::all_name_bytes;
 use paper::RecordPlace;
+use paper::bytes::byte;
 
-// The byte at a place, 0 past the slice's end.
-fn byte(table: &[u8], at: usize) -> u8
-    ensures { λ r. ⌜ r ≡ getD (now (table .entry)) at 0 ⌝ }
-{
-    if at < table.len() { table[at] } else { 0 }
-}
-
-// The same, where the byte is a length.
+// A byte that is a length, 0 past the slice's end.
 fn length_at(table: &[u8], at: usize) -> usize
     ensures { λ r. ⌜ (r ≡ getD (now (table .entry)) at 0) × (r ≤ 255) ⌝ }
 {

@@ -9,7 +9,7 @@ use Rattle.paper.proofs.Choice.{below, not-below}
 use Rattle.variables.specs.Tables.{checked}
 use Rattle.variables.specs.declared.Checked.{Checked}
 use Rattle.variables.specs.declared.Checked.the-variants.{Good, Refused}
-use Rattle.gs.specs.Translations.{readingOf, allowed, refusedAt, translatedBy, translatedOver, leftBy, translated, outAfter}
+use Rattle.gs.specs.Translations.{readingOf, refusedAt, translatedBy, translatedOver, leftBy, translated, outAfter}
 use Rattle.gs.specs.declared.Translated.{Translated}
 use Rattle.gs.specs.declared.Translated.the-variants.{BadTable}
 use borrow.Author.Needs.{needs}

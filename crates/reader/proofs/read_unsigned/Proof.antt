@@ -3,14 +3,17 @@ use mathlib.Core.Bool.{Bool, cond}
 use mathlib.Core.List.{List}
 use mathlib.Core.Path.{_≡_, _∙_}
 use Prim.Native.Nat.{ℕ, _+_, _≤_}
+use native.Mathlib.Nat.{zero-add}
 use native.Mathlib.Omega.{arith}
 use borrow.Author.Needs.{needs}
 use borrow.Author.Tests.{eq-eqb, ne-eqb, lt-ltb, le-ltb}
 use lib.ListN.{length, getD, drop}
+use Rattle.paper.specs.Bytes.{spaces}
+use Rattle.paper.proofs.Spaces.{spaces-within}
 use Rattle.reader.specs.declared.Reading.{Reading}
 use Rattle.reader.specs.Reading.{run, worth, judged, behind, marked, numbered, reading}
 use Rattle.reader.specs.Steps.{cut}
-use Rattle.reader.proofs.Laws.{spaces-within, run-within, cut-judged, cut-behind}
+use Rattle.reader.proofs.Laws.{run-within, cut-judged, cut-behind}
 use Rattle.reader.proofs.read_unsigned.Statement.{statement}
 use Rattle.reader.proofs.read_unsigned.Tie as tie
 
@@ -34,12 +37,15 @@ module _ (c : tie.After-skip-spaces) where
   abbrev asked : {A : Type 0} → (List ℕ → Bool → ℕ → A) → A
   asked f = f text (c .before .before .before .args .whole) (c .before .before .before .args .limit)
 
+  begins : c .skip-spaces .result ≡ spaces text
+  begins = c .skip-spaces .ensures ∙ zero-add _
+
   start-within : c .skip-spaces .result ≤ length text
-  start-within = omega (arith, spaces-within text)
+  start-within = omega (arith, begins, spaces-within text)
 
   from-start : asked reading ≡ asked numbered (c .skip-spaces .result)
   unfolding reading
-  from-start = rw (le-ltb _ _ (c .before .if1 .left), ← c .skip-spaces .ensures)
+  from-start = rw (le-ltb _ _ (c .before .if1 .left), ← begins)
 
 -- where the digits at the start are known
 module _ (c : tie.After-run-from) where

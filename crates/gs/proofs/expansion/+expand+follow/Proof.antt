@@ -6,8 +6,8 @@ use native.Mathlib.Omega.{arith}
 use lib.ListN.{length, take, drop, length-take}
 use borrow.Author.Needs.{needs}
 use denote.Ref.{now}
+use Rattle.variables.specs.Names.{namesOf}
 use Rattle.gs.specs.Readings.{expands, whole}
-use Rattle.gs.specs.Translations.{namesOf}
 use Rattle.gs.specs.Steps.{Laid, Came, went, halted, Read, pieceOf, lengthIn, referredIn, behindAt, partOf}
 use Rattle.variables.specs.declared.Variable.{Variable}
 use Rattle.gs.proofs.Pieces.{value-small}

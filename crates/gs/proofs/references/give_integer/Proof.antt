@@ -18,7 +18,6 @@ use Rattle.numbers.specs.declared.forms.Width.the-variants.{Word}
 use Rattle.numbers.specs.declared.forms.Form.{Form}
 use Rattle.numbers.proofs.Bounds.{decimal-short}
 use Rattle.gs.specs.Readings.{givesAll, decimalOf}
-use Rattle.gs.specs.Translations.{pattern}
 use Rattle.gs.specs.Steps.{Came}
 use Rattle.gs.proofs.references.give_integer.Statement.{statement}
 use Rattle.gs.proofs.references.give_integer.Tie as tie

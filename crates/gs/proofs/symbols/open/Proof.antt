@@ -8,9 +8,9 @@ use native.Mathlib.Omega.{arith}
 use borrow.Author.Needs.{needs}
 use lib.Dec.{eqb}
 use lib.ListN.{getD}
+use Rattle.paper.specs.Bytes.{spaces}
 use Rattle.paper.proofs.Choice.{hit, skip}
-use Rattle.reader.proofs.Laws.{spaces-within}
-use Rattle.reader.specs.Reading.{spaces}
+use Rattle.paper.proofs.Spaces.{spaces-within}
 use Rattle.gs.specs.Flags.{quotePlain}
 use Rattle.gs.specs.Symbols.{opened}
 use Rattle.gs.specs.declared.symbols.Mode.the-variants.{Plain, Quoted}

@@ -6,7 +6,7 @@ use native.Mathlib.Omega.{arith}
 use borrow.Author.Needs.{needs}
 use borrow.Author.Tests.{eq-eqb, ne-eqb, lt-ltb, le-ltb}
 use lib.ListN.{drop, getD}
-use Rattle.reader.proofs.Laws.{inside}
+use Rattle.paper.proofs.Spaces.{inside}
 use Rattle.gs.specs.Symbols.{nameRun}
 use Rattle.gs.specs.Symbols.{referred}
 use Rattle.gs.specs.declared.symbols.Symbol.the-variants.{Reference}

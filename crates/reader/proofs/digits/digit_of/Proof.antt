@@ -7,7 +7,8 @@ use native.Mathlib.Omega.{arith}
 use borrow.Author.Needs.{needs}
 use borrow.Author.Tests.{le-leb, lt-leb}
 use lib.Dec.{leb}
-use Rattle.reader.specs.Reading.{among, digit}
+use Rattle.paper.specs.Bytes.{among}
+use Rattle.reader.specs.Reading.{digit}
 use Rattle.reader.proofs.digits.digit_of.Statement.{statement}
 use Rattle.reader.proofs.digits.digit_of.Tie as tie
 
