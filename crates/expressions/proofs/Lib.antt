@@ -3,3 +3,6 @@ pub mod Signs
 pub mod Laws
 pub mod Places
 pub mod Onward
+pub mod Joins
+pub mod Chains
+pub mod Operands

@@ -74,17 +74,72 @@ module _ (text : List ℕ) where
 
   module _ (level : ℕ) (below : ℕ → Parsed) (tighter : (at : ℕ) → Onward at (below at)) where
     following-onward : (more at : ℕ) (parsed : Parsed) → Onward at parsed → Onward at (following text more level below parsed)
-    extended-onward : (more at : ℕ) (left : Tree) (here : ℕ) (b : Behind) → binding level (tokenAt text here) ≡ b → Onward at (tree left here)
-        → Onward at (extended b left here below (following text more level below))
-
     unfolding following
     following-onward zero at parsed o = o
     following-onward (suc more) at (wrong fault place) o = o
-    following-onward (suc more) at (tree left here) o = extended-onward more at left here (binding level (tokenAt text here)) refl o
+    following-onward (suc more) at (tree left here) o = extended-onward (binding level (tokenAt text here)) refl (following-onward more at)
+      where
+        extended-onward : (b : Behind) → binding level (tokenAt text here) ≡ b
+            → ((parsed : Parsed) → Onward at parsed → Onward at (following text more level below parsed))
+            → Onward at (extended b left here below (following text more level below))
+        extended-onward Other e rest = o
+        extended-onward (Binds operator place next) e rest =
+            let h = o .ends left here refl in
+            let b = binds-onward level here place next operator e in
+            rest (joined operator place left (below next))
+            (joined-onward at operator place left (below next) (later-onward at next (below next) (omega arith) (tighter next)))
 
-    extended-onward more at left here Other e o = o
-    extended-onward more at left here (Binds operator place next) e o =
-        let h = o .ends left here refl in
-        let b = binds-onward level here place next operator e in
-        following-onward more at (joined operator place left (below next))
-        (joined-onward at operator place left (below next) (later-onward at next (below next) (omega arith) (tighter next)))
+  pub level-onward : (level : ℕ) (operand : ℕ → Parsed) → ((at : ℕ) → Onward at (operand at)) → (at : ℕ) → Onward at (levelAt text level operand at)
+  level-onward zero operand o at = o at
+  level-onward (suc tighter) operand o at =
+      following-onward (suc tighter) (levelAt text tighter operand) (level-onward tighter operand o) (suc (length text)) at _ (level-onward tighter operand o at)
+
+  closed-by : (at : ℕ) (inner : Tree) (at′ next′ : ℕ) (token : Token) → (Takes token → (at < next′) × (next′ ≤ length text)) → Onward at (closedBy inner token at′ next′)
+  closed-by at inner at′ next′ Close s = let h = s tt in tree-onward at inner next′ (h .0) (h .1)
+  closed-by at inner at′ next′ End s = wrong-onward at _ at′
+  closed-by at inner at′ next′ (Operates operator) s = wrong-onward at _ at′
+  closed-by at inner at′ next′ (Number value) s = wrong-onward at _ at′
+  closed-by at inner at′ next′ (BadNumber fault place) s = wrong-onward at _ at′
+  closed-by at inner at′ next′ Name s = wrong-onward at _ at′
+  closed-by at inner at′ next′ Open s = wrong-onward at _ at′
+  closed-by at inner at′ next′ Strange s = wrong-onward at _ at′
+
+  closed-onward : (at : ℕ) (parsed : Parsed) → Onward at parsed → Onward at (closed text parsed)
+  closed-onward at (wrong fault place) o = o
+  closed-onward at (tree inner here) o = closed-by at inner _ _ (tokenAt text here .token) (λ t. omega (arith, o .ends inner here refl, behind t))
+    where
+      behind : Takes (tokenAt text here .token) → (here ≤ tokenAt text here .at) × (tokenAt text here .at < tokenAt text here .next) × (tokenAt text here .next ≤ length text)
+      behind t = let s = stands text here t in (s .starts, s .forward, s .within)
+
+  -- what a unary operator or a bracket covers goes on behind the place where it starts
+  record Covers (deeper : Deeper) : Type 0 where
+    under : (operator : Operator) (at next : ℕ) → Onward next (deeper .under operator at next)
+    bracket : (at next : ℕ) → Onward next (deeper .bracket at next)
+
+  operand-by : (deeper : Deeper) → Covers deeper → (at at′ next′ : ℕ) (token : Token)
+      → (Takes token → (at < next′) × (next′ ≤ length text)) → Onward at (operandBy text deeper token at′ next′)
+  operand-by deeper d at at′ next′ (Number value) s = let h = s tt in tree-onward at _ next′ (h .0) (h .1)
+  operand-by deeper d at at′ next′ (BadNumber fault place) s = wrong-onward at fault place
+  operand-by deeper d at at′ next′ Name s = let h = s tt in tree-onward at _ next′ (h .0) (h .1)
+  operand-by deeper d at at′ next′ (Operates operator) s =
+      either (Onward at) (standsAlone operator) (λ _. later-onward at next′ _ (omega (arith, s tt)) (d .under operator at′ next′)) (λ _. wrong-onward at _ at′)
+  operand-by deeper d at at′ next′ Open s = later-onward at next′ _ (omega (arith, s tt)) (d .bracket at′ next′)
+  operand-by deeper d at at′ next′ End s = wrong-onward at _ at′
+  operand-by deeper d at at′ next′ Close s = wrong-onward at _ at′
+  operand-by deeper d at at′ next′ Strange s = wrong-onward at _ at′
+
+  started-onward : (deeper : Deeper) → Covers deeper → (at : ℕ) → Onward at (startedIn text deeper at)
+  started-onward deeper d at =
+      let l = tokenAt text at in
+      operand-by deeper d at (l .at) (l .next) (l .token) (λ t. let s = stands text at t in omega (arith, s .starts, s .forward, s .within))
+
+  pub operand-onward : (levels at : ℕ) → Onward at (operandAt text levels at)
+  unfolding operandAt
+  operand-onward zero at = started-onward (deepest text) (record { under = λ o p next. wrong-onward next _ p; bracket = λ p next. wrong-onward next _ p }) at
+  operand-onward (suc levels) at =
+      started-onward (oneDeeper text (operandAt text levels))
+      (record {
+        under = λ o p next. covered-onward next o _ (operand-onward levels next);
+        bracket = λ p next. closed-onward next _ (level-onward loosest (operandAt text levels) (operand-onward levels) next);
+      })
+      at

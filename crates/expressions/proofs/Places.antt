@@ -11,11 +11,11 @@ use lib.ListN.{length, getD, drop, length-drop, List·getD-eq-default}
 use Rattle.paper.specs.Bytes.{spaces, ends}
 use Rattle.paper.specs.Refusals.{longest}
 use Rattle.paper.proofs.Choice.{either, hit}
-use Rattle.paper.proofs.Spaces.{inside}
+use Rattle.paper.proofs.Spaces.{inside, spaces-within}
 use Rattle.reader.specs.declared.Reading.{Reading}
 use Rattle.reader.specs.declared.Reading.the-variants.{Value, Refused}
 use Rattle.reader.specs.Reading.{run, goesOn, judged, based, behind, marked, numbered, reading}
-use Rattle.reader.proofs.Laws.{spaces-within, run-within}
+use Rattle.reader.proofs.Laws.{run-within}
 use Rattle.expressions.specs.declared.tokens.Lexed.{Lexed}
 use Rattle.expressions.specs.declared.tokens.Token.{Token}
 use Rattle.expressions.specs.declared.tokens.Token.the-variants.{End, Operator, Number, BadNumber, Name, Open, Close, Strange}

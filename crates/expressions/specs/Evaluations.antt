@@ -8,7 +8,7 @@ use Rattle.paper.specs.Traces.{Trace, ended, refused, asks, spends}
 use Rattle.paper.specs.declared.faults.Fault.the-variants.{UnknownName, ZeroDivisor, NotAnInteger}
 use Rattle.variables.specs.Names.{Meaning, unknown, string-of, integer-of, macro-of}
 use Rattle.expressions.specs.Operators.{divides}
-use Rattle.expressions.specs.Trees.{Tree, number, name, unary, binary, Parsed, tree, wrong}
+use Rattle.expressions.specs.Trees.{Tree, constant, variable, unary, binary, Parsed, tree, wrong}
 use Rattle.expressions.specs.Values.{unaryValue, binaryValue}
 use Rattle.expressions.specs.declared.operators.Operator.{Operator}
 
@@ -32,14 +32,14 @@ divided operator place right rest = cond (divides operator && eqb right 0) (refu
 
 module _ (names : List ℕ → Meaning) where
   abbrev pub valueOf : Tree → ℕ
-  valueOf (number pattern) = pattern
-  valueOf (name word place) = integerOf (names word)
+  valueOf (constant pattern) = pattern
+  valueOf (variable word place) = integerOf (names word)
   valueOf (unary operator inner) = unaryValue operator (valueOf inner)
   valueOf (binary operator place left right) = binaryValue operator (valueOf left) (valueOf right)
 
   abbrev pub steps : Tree → Trace → Trace
-  steps (number pattern) rest = rest
-  steps (name word place) rest = asks word (named (names word) place rest)
+  steps (constant pattern) rest = rest
+  steps (variable word place) rest = asks word (named (names word) place rest)
   steps (unary operator inner) rest = steps inner rest
   steps (binary operator place left right) rest = steps left (steps right (divided operator place (valueOf right) rest))
 

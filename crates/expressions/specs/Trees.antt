@@ -17,9 +17,9 @@ use Rattle.expressions.specs.declared.levels.Behind.the-variants.{Binds,
 
 pub data Tree : Type 0 where
   -- a 32-bit pattern
-  number : ℕ → Tree
+  constant : ℕ → Tree
   -- a name, and its place
-  name : List ℕ → ℕ → Tree
+  variable : List ℕ → ℕ → Tree
   -- an operator before one operand
   unary : Operator → Tree → Tree
   -- an operator, its place, and the operands that it stands between
@@ -105,9 +105,9 @@ module _ (text : List ℕ) where
 
   -- an operand by its first token
   abbrev pub operandBy : Deeper → Token → ℕ → ℕ → Parsed
-  operandBy deeper (Number value) at next = tree (number value) next
+  operandBy deeper (Number value) at next = tree (constant value) next
   operandBy deeper (BadNumber fault place) at next = wrong fault place
-  operandBy deeper Name at next = tree (name (take (next - at) (drop at text)) at) next
+  operandBy deeper Name at next = tree (variable (take (next - at) (drop at text)) at) next
   operandBy deeper (Operates operator) at next = cond (standsAlone operator) (deeper .under operator at next) (wrong BadExpression at)
   operandBy deeper Open at next = deeper .bracket at next
   operandBy deeper End at next = wrong BadExpression at

@@ -101,7 +101,7 @@ fn refused(number: u8, place: usize, next: usize) -> Part
 
 // A number spends nothing.
 pub(crate) fn number(value: u32, next: usize, account: Account) -> Part
-    ensures { λ r. ⌜ ((names : List ℕ → Meaning) → r ≡ partOf names account (Trees.tree (Trees.number value) next)) ⌝ }
+    ensures { λ r. ⌜ ((names : List ℕ → Meaning) → r ≡ partOf names account (Trees.tree (Trees.constant value) next)) ⌝ }
 {
     match account {
         Account::Open(left) => Part::Value { value, left, next },
@@ -115,7 +115,7 @@ pub(crate) fn number(value: u32, next: usize, account: Account) -> Part
 
 // A name must be known, and an integer variable; then it spends one look-up.
 fn look_up(name: &[u8], table: &[u8], place: usize, next: usize, left: u32) -> Part
-    ensures { λ r. ⌜ r ≡ partOf (namesOf (now (table .entry))) (Account.Open left) (Trees.tree (Trees.name (now (name .entry)) place) next) ⌝ }
+    ensures { λ r. ⌜ r ≡ partOf (namesOf (now (table .entry))) (Account.Open left) (Trees.tree (Trees.variable (now (name .entry)) place) next) ⌝ }
 {
     match variables::find(table, name) {
         Found::Nothing => refused(UNKNOWN_NAME, place, next),
@@ -138,7 +138,7 @@ fn look_up(name: &[u8], table: &[u8], place: usize, next: usize, left: u32) -> P
 
 // Behind a refusal no name is looked up any more.
 pub(crate) fn named(name: &[u8], table: &[u8], place: usize, next: usize, account: Account) -> Part
-    ensures { λ r. ⌜ r ≡ partOf (namesOf (now (table .entry))) account (Trees.tree (Trees.name (now (name .entry)) place) next) ⌝ }
+    ensures { λ r. ⌜ r ≡ partOf (namesOf (now (table .entry))) account (Trees.tree (Trees.variable (now (name .entry)) place) next) ⌝ }
 {
     match account {
         Account::Open(left) => look_up(name, table, place, next, left),

@@ -1,6 +1,20 @@
-use Prim.Native.Nat.{ℕ, _<_}
+-- The levels and the operand meet their contracts: each level reads operands of the next tighter one, and a bracket's operand the
+-- loosest again, one level deeper. What falls at each call is eight times the levels left and the level's own number.
+use mathlib.Core.Bool.{not}
+use mathlib.Core.Path.{_≡_, refl, sym, ap, _∙_}
+use Prim.Native.Nat.{ℕ, suc, _+_, _*_, _<_, _≤_}
+use native.Mathlib.Omega.{arith}
+use lib.ListN.{length}
+use borrow.Author.Needs.{needs}
 use borrow.Fn.Kinds.{In}
 use borrow.Fn.PlainCycle.{Measures, is, falls, and}
+use Rattle.variables.specs.Names.{namesOf}
+use Rattle.expressions.specs.Trees.{tree, wrong, constant, variable, levelAt, operandAt}
+use Rattle.expressions.specs.Steps.{partOf}
+use Rattle.expressions.specs.declared.parts.Account.{Account}
+use Rattle.expressions.specs.declared.tokens.Token.the-variants.{End, Number, BadNumber, Name, Close, Strange}
+use Rattle.expressions.proofs.Chains.{remaining, Chain, begins, goes-on, ends, falls as falls-behind}
+use Rattle.expressions.proofs.Operands.{starts-with, name-stands, misplaced, operator-too-deep, operator-covers, bracket-too-deep, bracket-covers}
 use Rattle.expressions.proofs.levels.conjunction.Reads as conjunction
 use Rattle.expressions.proofs.levels.conjunction.Kinds as conjunction-kinds
 use Rattle.expressions.proofs.levels.+conjunction+disjunction+operand+relation+sum+term.Lts-conjunction as conjunction-lts
@@ -29,46 +43,26 @@ use Rattle.expressions.proofs.parts.joined.Reads as joined-reads
 use Rattle.expressions.proofs.parts.named.Reads as named-reads
 use Rattle.expressions.proofs.parts.number.Reads as number-reads
 use Rattle.expressions.proofs.tokens.token_at.Reads as token-at-reads
-use Rattle.expressions.proofs.levels.+conjunction+disjunction+operand+relation+sum+term.{
-  statement,
-}
-use Rattle.expressions.proofs.levels.+conjunction+disjunction+operand+relation+sum+term.Tie.{
-  close,
-}
-
-abbrev μ-conjunction : Measures 2 conjunction-kinds.ps ℕ
-μ-conjunction κs a = ?
-
-abbrev μ-disjunction : Measures 2 disjunction-kinds.ps ℕ
-μ-disjunction κs a = ?
+use Rattle.expressions.proofs.levels.+conjunction+disjunction+operand+relation+sum+term.{statement}
+use Rattle.expressions.proofs.levels.+conjunction+disjunction+operand+relation+sum+term.Tie.{close}
 
 abbrev μ-operand : Measures 2 operand-kinds.ps ℕ
-μ-operand κs a = ?
-
-abbrev μ-relation : Measures 2 relation-kinds.ps ℕ
-μ-relation κs a = ?
-
-abbrev μ-sum : Measures 2 sum-kinds.ps ℕ
-μ-sum κs a = ?
+μ-operand κs a = 8 * a .1 .1 .0
 
 abbrev μ-term : Measures 2 term-kinds.ps ℕ
-μ-term κs a = ?
+μ-term κs a = 8 * a .1 .1 .0 + 1
 
-abbrev conjunction-at : ℕ → In 2 conjunction-kinds.ps
-conjunction-at t =
-    and 2 conjunction-kinds.ps (is 2 conjunction-kinds.ps μ-conjunction t) conjunction.Pre
+abbrev μ-sum : Measures 2 sum-kinds.ps ℕ
+μ-sum κs a = 8 * a .1 .1 .0 + 2
 
-abbrev conjunction-below : ℕ → In 2 conjunction-kinds.ps
-conjunction-below t =
-    and 2 conjunction-kinds.ps (falls 2 conjunction-kinds.ps _<_ μ-conjunction t) conjunction.Pre
+abbrev μ-relation : Measures 2 relation-kinds.ps ℕ
+μ-relation κs a = 8 * a .1 .1 .0 + 3
 
-abbrev disjunction-at : ℕ → In 2 disjunction-kinds.ps
-disjunction-at t =
-    and 2 disjunction-kinds.ps (is 2 disjunction-kinds.ps μ-disjunction t) disjunction.Pre
+abbrev μ-conjunction : Measures 2 conjunction-kinds.ps ℕ
+μ-conjunction κs a = 8 * a .1 .1 .0 + 4
 
-abbrev disjunction-below : ℕ → In 2 disjunction-kinds.ps
-disjunction-below t =
-    and 2 disjunction-kinds.ps (falls 2 disjunction-kinds.ps _<_ μ-disjunction t) disjunction.Pre
+abbrev μ-disjunction : Measures 2 disjunction-kinds.ps ℕ
+μ-disjunction κs a = 8 * a .1 .1 .0 + 5
 
 abbrev operand-at : ℕ → In 2 operand-kinds.ps
 operand-at t = and 2 operand-kinds.ps (is 2 operand-kinds.ps μ-operand t) operand.Pre
@@ -76,12 +70,11 @@ operand-at t = and 2 operand-kinds.ps (is 2 operand-kinds.ps μ-operand t) opera
 abbrev operand-below : ℕ → In 2 operand-kinds.ps
 operand-below t = and 2 operand-kinds.ps (falls 2 operand-kinds.ps _<_ μ-operand t) operand.Pre
 
-abbrev relation-at : ℕ → In 2 relation-kinds.ps
-relation-at t = and 2 relation-kinds.ps (is 2 relation-kinds.ps μ-relation t) relation.Pre
+abbrev term-at : ℕ → In 2 term-kinds.ps
+term-at t = and 2 term-kinds.ps (is 2 term-kinds.ps μ-term t) term.Pre
 
-abbrev relation-below : ℕ → In 2 relation-kinds.ps
-relation-below t =
-    and 2 relation-kinds.ps (falls 2 relation-kinds.ps _<_ μ-relation t) relation.Pre
+abbrev term-below : ℕ → In 2 term-kinds.ps
+term-below t = and 2 term-kinds.ps (falls 2 term-kinds.ps _<_ μ-term t) term.Pre
 
 abbrev sum-at : ℕ → In 2 sum-kinds.ps
 sum-at t = and 2 sum-kinds.ps (is 2 sum-kinds.ps μ-sum t) sum.Pre
@@ -89,1295 +82,39 @@ sum-at t = and 2 sum-kinds.ps (is 2 sum-kinds.ps μ-sum t) sum.Pre
 abbrev sum-below : ℕ → In 2 sum-kinds.ps
 sum-below t = and 2 sum-kinds.ps (falls 2 sum-kinds.ps _<_ μ-sum t) sum.Pre
 
-abbrev term-at : ℕ → In 2 term-kinds.ps
-term-at t = and 2 term-kinds.ps (is 2 term-kinds.ps μ-term t) term.Pre
+abbrev relation-at : ℕ → In 2 relation-kinds.ps
+relation-at t = and 2 relation-kinds.ps (is 2 relation-kinds.ps μ-relation t) relation.Pre
 
-abbrev term-below : ℕ → In 2 term-kinds.ps
-term-below t = and 2 term-kinds.ps (falls 2 term-kinds.ps _<_ μ-term t) term.Pre
+abbrev relation-below : ℕ → In 2 relation-kinds.ps
+relation-below t = and 2 relation-kinds.ps (falls 2 relation-kinds.ps _<_ μ-relation t) relation.Pre
 
-abbrev conjunction-Inv-loop : conjunction-lts.InvT-loop
-conjunction-Inv-loop text table levels at left₀ left = ?
+abbrev conjunction-at : ℕ → In 2 conjunction-kinds.ps
+conjunction-at t = and 2 conjunction-kinds.ps (is 2 conjunction-kinds.ps μ-conjunction t) conjunction.Pre
 
-abbrev conjunction-μ-loop : conjunction-lts.MeasureT-loop
-conjunction-μ-loop text table levels at left₀ left = ?
+abbrev conjunction-below : ℕ → In 2 conjunction-kinds.ps
+conjunction-below t = and 2 conjunction-kinds.ps (falls 2 conjunction-kinds.ps _<_ μ-conjunction t) conjunction.Pre
 
--- src/levels.rt:239:9
-conjunction-relation-requires : (t : ℕ) → conjunction-lts.Need-relation-requires (
-  relation-below t,
-  relation.Post,
+abbrev disjunction-at : ℕ → In 2 disjunction-kinds.ps
+disjunction-at t = and 2 disjunction-kinds.ps (is 2 disjunction-kinds.ps μ-disjunction t) disjunction.Pre
+
+abbrev disjunction-below : ℕ → In 2 disjunction-kinds.ps
+disjunction-below t = and 2 disjunction-kinds.ps (falls 2 disjunction-kinds.ps _<_ μ-disjunction t) disjunction.Pre
+
+-- what the functions that a level calls ask and tell
+abbrev term-calls : ℕ → term-lts.Claims
+term-calls t = (
+  operand-below t,
+  operand.Post,
   operator-behind-reads.Asked,
   operator-behind-reads.Learnt,
   account-of-reads.Asked,
   account-of-reads.Learnt,
   joined-reads.Asked,
   joined-reads.Learnt,
-) (conjunction-at t) conjunction.Post conjunction-Inv-loop conjunction-μ-loop
-conjunction-relation-requires t c κs = ?
+)
 
--- src/levels.rt:240:5
-conjunction-loop-holds : (t : ℕ) → conjunction-lts.Need-loop-holds (
-  relation-below t,
-  relation.Post,
-  operator-behind-reads.Asked,
-  operator-behind-reads.Learnt,
-  account-of-reads.Asked,
-  account-of-reads.Learnt,
-  joined-reads.Asked,
-  joined-reads.Learnt,
-) (conjunction-at t) conjunction.Post conjunction-Inv-loop conjunction-μ-loop
-conjunction-loop-holds t c = ?
-
--- src/levels.rt:241:15
-conjunction-operator-behind-requires : (t : ℕ) → conjunction-lts.Need-operator-behind-requires (
-  relation-below t,
-  relation.Post,
-  operator-behind-reads.Asked,
-  operator-behind-reads.Learnt,
-  account-of-reads.Asked,
-  account-of-reads.Learnt,
-  joined-reads.Asked,
-  joined-reads.Learnt,
-) (conjunction-at t) conjunction.Post conjunction-Inv-loop conjunction-μ-loop
-conjunction-operator-behind-requires t c κs = ?
-
--- src/levels.rt:242:30
-conjunction-enum-told : (t : ℕ) → conjunction-lts.Need-enum-told (
-  relation-below t,
-  relation.Post,
-  operator-behind-reads.Asked,
-  operator-behind-reads.Learnt,
-  account-of-reads.Asked,
-  account-of-reads.Learnt,
-  joined-reads.Asked,
-  joined-reads.Learnt,
-) (conjunction-at t) conjunction.Post conjunction-Inv-loop conjunction-μ-loop
-conjunction-enum-told t c = ?
-
--- src/levels.rt:242:30
-conjunction-returns : (t : ℕ) → conjunction-lts.Need-returns (
-  relation-below t,
-  relation.Post,
-  operator-behind-reads.Asked,
-  operator-behind-reads.Learnt,
-  account-of-reads.Asked,
-  account-of-reads.Learnt,
-  joined-reads.Asked,
-  joined-reads.Learnt,
-) (conjunction-at t) conjunction.Post conjunction-Inv-loop conjunction-μ-loop
-conjunction-returns t c = ?
-
--- src/levels.rt:244:17
-conjunction-enum-known-operator : (t : ℕ) → conjunction-lts.Need-enum-known-operator (
-  relation-below t,
-  relation.Post,
-  operator-behind-reads.Asked,
-  operator-behind-reads.Learnt,
-  account-of-reads.Asked,
-  account-of-reads.Learnt,
-  joined-reads.Asked,
-  joined-reads.Learnt,
-) (conjunction-at t) conjunction.Post conjunction-Inv-loop conjunction-μ-loop
-conjunction-enum-known-operator t c = ?
-
--- src/levels.rt:248:65
-conjunction-account-of-requires : (t : ℕ) → conjunction-lts.Need-account-of-requires (
-  relation-below t,
-  relation.Post,
-  operator-behind-reads.Asked,
-  operator-behind-reads.Learnt,
-  account-of-reads.Asked,
-  account-of-reads.Learnt,
-  joined-reads.Asked,
-  joined-reads.Learnt,
-) (conjunction-at t) conjunction.Post conjunction-Inv-loop conjunction-μ-loop
-conjunction-account-of-requires t c κs = ?
-
--- src/levels.rt:248:21
-conjunction-relation-requires-2 : (t : ℕ) → conjunction-lts.Need-relation-requires-2 (
-  relation-below t,
-  relation.Post,
-  operator-behind-reads.Asked,
-  operator-behind-reads.Learnt,
-  account-of-reads.Asked,
-  account-of-reads.Learnt,
-  joined-reads.Asked,
-  joined-reads.Learnt,
-) (conjunction-at t) conjunction.Post conjunction-Inv-loop conjunction-μ-loop
-conjunction-relation-requires-2 t c κs = ?
-
--- src/levels.rt:249:17
-conjunction-joined-requires : (t : ℕ) → conjunction-lts.Need-joined-requires (
-  relation-below t,
-  relation.Post,
-  operator-behind-reads.Asked,
-  operator-behind-reads.Learnt,
-  account-of-reads.Asked,
-  account-of-reads.Learnt,
-  joined-reads.Asked,
-  joined-reads.Learnt,
-) (conjunction-at t) conjunction.Post conjunction-Inv-loop conjunction-μ-loop
-conjunction-joined-requires t c κs = ?
-
--- src/levels.rt:240:5
-conjunction-loop-less : (t : ℕ) → conjunction-lts.Need-loop-less (
-  relation-below t,
-  relation.Post,
-  operator-behind-reads.Asked,
-  operator-behind-reads.Learnt,
-  account-of-reads.Asked,
-  account-of-reads.Learnt,
-  joined-reads.Asked,
-  joined-reads.Learnt,
-) (conjunction-at t) conjunction.Post conjunction-Inv-loop conjunction-μ-loop
-conjunction-loop-less t c = ?
-
--- src/levels.rt:240:5
-conjunction-loop-again : (t : ℕ) → conjunction-lts.Need-loop-again (
-  relation-below t,
-  relation.Post,
-  operator-behind-reads.Asked,
-  operator-behind-reads.Learnt,
-  account-of-reads.Asked,
-  account-of-reads.Learnt,
-  joined-reads.Asked,
-  joined-reads.Learnt,
-) (conjunction-at t) conjunction.Post conjunction-Inv-loop conjunction-μ-loop
-conjunction-loop-again t c = ?
-
-abbrev disjunction-Inv-loop : disjunction-lts.InvT-loop
-disjunction-Inv-loop text table levels at left₀ left = ?
-
-abbrev disjunction-μ-loop : disjunction-lts.MeasureT-loop
-disjunction-μ-loop text table levels at left₀ left = ?
-
--- src/levels.rt:265:9
-disjunction-conjunction-requires : (t : ℕ) → disjunction-lts.Need-conjunction-requires (
-  conjunction-below t,
-  conjunction.Post,
-  operator-behind-reads.Asked,
-  operator-behind-reads.Learnt,
-  account-of-reads.Asked,
-  account-of-reads.Learnt,
-  joined-reads.Asked,
-  joined-reads.Learnt,
-) (disjunction-at t) disjunction.Post disjunction-Inv-loop disjunction-μ-loop
-disjunction-conjunction-requires t c κs = ?
-
--- src/levels.rt:266:5
-disjunction-loop-holds : (t : ℕ) → disjunction-lts.Need-loop-holds (
-  conjunction-below t,
-  conjunction.Post,
-  operator-behind-reads.Asked,
-  operator-behind-reads.Learnt,
-  account-of-reads.Asked,
-  account-of-reads.Learnt,
-  joined-reads.Asked,
-  joined-reads.Learnt,
-) (disjunction-at t) disjunction.Post disjunction-Inv-loop disjunction-μ-loop
-disjunction-loop-holds t c = ?
-
--- src/levels.rt:267:15
-disjunction-operator-behind-requires : (t : ℕ) → disjunction-lts.Need-operator-behind-requires (
-  conjunction-below t,
-  conjunction.Post,
-  operator-behind-reads.Asked,
-  operator-behind-reads.Learnt,
-  account-of-reads.Asked,
-  account-of-reads.Learnt,
-  joined-reads.Asked,
-  joined-reads.Learnt,
-) (disjunction-at t) disjunction.Post disjunction-Inv-loop disjunction-μ-loop
-disjunction-operator-behind-requires t c κs = ?
-
--- src/levels.rt:268:30
-disjunction-enum-told : (t : ℕ) → disjunction-lts.Need-enum-told (
-  conjunction-below t,
-  conjunction.Post,
-  operator-behind-reads.Asked,
-  operator-behind-reads.Learnt,
-  account-of-reads.Asked,
-  account-of-reads.Learnt,
-  joined-reads.Asked,
-  joined-reads.Learnt,
-) (disjunction-at t) disjunction.Post disjunction-Inv-loop disjunction-μ-loop
-disjunction-enum-told t c = ?
-
--- src/levels.rt:268:30
-disjunction-returns : (t : ℕ) → disjunction-lts.Need-returns (
-  conjunction-below t,
-  conjunction.Post,
-  operator-behind-reads.Asked,
-  operator-behind-reads.Learnt,
-  account-of-reads.Asked,
-  account-of-reads.Learnt,
-  joined-reads.Asked,
-  joined-reads.Learnt,
-) (disjunction-at t) disjunction.Post disjunction-Inv-loop disjunction-μ-loop
-disjunction-returns t c = ?
-
--- src/levels.rt:270:17
-disjunction-enum-known-operator : (t : ℕ) → disjunction-lts.Need-enum-known-operator (
-  conjunction-below t,
-  conjunction.Post,
-  operator-behind-reads.Asked,
-  operator-behind-reads.Learnt,
-  account-of-reads.Asked,
-  account-of-reads.Learnt,
-  joined-reads.Asked,
-  joined-reads.Learnt,
-) (disjunction-at t) disjunction.Post disjunction-Inv-loop disjunction-μ-loop
-disjunction-enum-known-operator t c = ?
-
--- src/levels.rt:274:68
-disjunction-account-of-requires : (t : ℕ) → disjunction-lts.Need-account-of-requires (
-  conjunction-below t,
-  conjunction.Post,
-  operator-behind-reads.Asked,
-  operator-behind-reads.Learnt,
-  account-of-reads.Asked,
-  account-of-reads.Learnt,
-  joined-reads.Asked,
-  joined-reads.Learnt,
-) (disjunction-at t) disjunction.Post disjunction-Inv-loop disjunction-μ-loop
-disjunction-account-of-requires t c κs = ?
-
--- src/levels.rt:274:21
-disjunction-conjunction-requires-2 : (t : ℕ) → disjunction-lts.Need-conjunction-requires-2 (
-  conjunction-below t,
-  conjunction.Post,
-  operator-behind-reads.Asked,
-  operator-behind-reads.Learnt,
-  account-of-reads.Asked,
-  account-of-reads.Learnt,
-  joined-reads.Asked,
-  joined-reads.Learnt,
-) (disjunction-at t) disjunction.Post disjunction-Inv-loop disjunction-μ-loop
-disjunction-conjunction-requires-2 t c κs = ?
-
--- src/levels.rt:275:17
-disjunction-joined-requires : (t : ℕ) → disjunction-lts.Need-joined-requires (
-  conjunction-below t,
-  conjunction.Post,
-  operator-behind-reads.Asked,
-  operator-behind-reads.Learnt,
-  account-of-reads.Asked,
-  account-of-reads.Learnt,
-  joined-reads.Asked,
-  joined-reads.Learnt,
-) (disjunction-at t) disjunction.Post disjunction-Inv-loop disjunction-μ-loop
-disjunction-joined-requires t c κs = ?
-
--- src/levels.rt:266:5
-disjunction-loop-less : (t : ℕ) → disjunction-lts.Need-loop-less (
-  conjunction-below t,
-  conjunction.Post,
-  operator-behind-reads.Asked,
-  operator-behind-reads.Learnt,
-  account-of-reads.Asked,
-  account-of-reads.Learnt,
-  joined-reads.Asked,
-  joined-reads.Learnt,
-) (disjunction-at t) disjunction.Post disjunction-Inv-loop disjunction-μ-loop
-disjunction-loop-less t c = ?
-
--- src/levels.rt:266:5
-disjunction-loop-again : (t : ℕ) → disjunction-lts.Need-loop-again (
-  conjunction-below t,
-  conjunction.Post,
-  operator-behind-reads.Asked,
-  operator-behind-reads.Learnt,
-  account-of-reads.Asked,
-  account-of-reads.Learnt,
-  joined-reads.Asked,
-  joined-reads.Learnt,
-) (disjunction-at t) disjunction.Post disjunction-Inv-loop disjunction-μ-loop
-disjunction-loop-again t c = ?
-
--- src/levels.rt:137:9
-operand-token-at-requires : (t : ℕ) → operand-lts.Need-token-at-requires (
-  token-at-reads.Asked,
-  token-at-reads.Learnt,
-  number-reads.Asked,
-  number-reads.Learnt,
-  named-reads.Asked,
-  named-reads.Learnt,
-  stands-alone-reads.Asked,
-  stands-alone-reads.Learnt,
-  bad-reads.Asked,
-  bad-reads.Learnt,
-  operand-below t,
-  operand.Post,
-  covered-reads.Asked,
-  covered-reads.Learnt,
-  disjunction-below t,
-  disjunction.Post,
-  closed-reads.Asked,
-  closed-reads.Learnt,
-) (operand-at t) operand.Post
-operand-token-at-requires t c κs = ?
-
--- src/levels.rt:142:23
-operand-enum-known-token : (t : ℕ) → operand-lts.Need-enum-known-token (
-  token-at-reads.Asked,
-  token-at-reads.Learnt,
-  number-reads.Asked,
-  number-reads.Learnt,
-  named-reads.Asked,
-  named-reads.Learnt,
-  stands-alone-reads.Asked,
-  stands-alone-reads.Learnt,
-  bad-reads.Asked,
-  bad-reads.Learnt,
-  operand-below t,
-  operand.Post,
-  covered-reads.Asked,
-  covered-reads.Learnt,
-  disjunction-below t,
-  disjunction.Post,
-  closed-reads.Asked,
-  closed-reads.Learnt,
-) (operand-at t) operand.Post
-operand-enum-known-token t c = ?
-
--- src/levels.rt:142:33
-operand-number-requires : (t : ℕ) → operand-lts.Need-number-requires (
-  token-at-reads.Asked,
-  token-at-reads.Learnt,
-  number-reads.Asked,
-  number-reads.Learnt,
-  named-reads.Asked,
-  named-reads.Learnt,
-  stands-alone-reads.Asked,
-  stands-alone-reads.Learnt,
-  bad-reads.Asked,
-  bad-reads.Learnt,
-  operand-below t,
-  operand.Post,
-  covered-reads.Asked,
-  covered-reads.Learnt,
-  disjunction-below t,
-  disjunction.Post,
-  closed-reads.Asked,
-  closed-reads.Learnt,
-) (operand-at t) operand.Post
-operand-number-requires t c κs = ?
-
--- src/levels.rt:143:26
-operand-enum-known-token-2 : (t : ℕ) → operand-lts.Need-enum-known-token-2 (
-  token-at-reads.Asked,
-  token-at-reads.Learnt,
-  number-reads.Asked,
-  number-reads.Learnt,
-  named-reads.Asked,
-  named-reads.Learnt,
-  stands-alone-reads.Asked,
-  stands-alone-reads.Learnt,
-  bad-reads.Asked,
-  bad-reads.Learnt,
-  operand-below t,
-  operand.Post,
-  covered-reads.Asked,
-  covered-reads.Learnt,
-  disjunction-below t,
-  disjunction.Post,
-  closed-reads.Asked,
-  closed-reads.Learnt,
-) (operand-at t) operand.Post
-operand-enum-known-token-2 t c = ?
-
--- src/levels.rt:147:37
-operand-enum-told : (t : ℕ) → operand-lts.Need-enum-told (
-  token-at-reads.Asked,
-  token-at-reads.Learnt,
-  number-reads.Asked,
-  number-reads.Learnt,
-  named-reads.Asked,
-  named-reads.Learnt,
-  stands-alone-reads.Asked,
-  stands-alone-reads.Learnt,
-  bad-reads.Asked,
-  bad-reads.Learnt,
-  operand-below t,
-  operand.Post,
-  covered-reads.Asked,
-  covered-reads.Learnt,
-  disjunction-below t,
-  disjunction.Post,
-  closed-reads.Asked,
-  closed-reads.Learnt,
-) (operand-at t) operand.Post
-operand-enum-told t c = ?
-
--- src/levels.rt:147:37
-operand-sub-named : (t : ℕ) → operand-lts.Need-sub-named (
-  token-at-reads.Asked,
-  token-at-reads.Learnt,
-  number-reads.Asked,
-  number-reads.Learnt,
-  named-reads.Asked,
-  named-reads.Learnt,
-  stands-alone-reads.Asked,
-  stands-alone-reads.Learnt,
-  bad-reads.Asked,
-  bad-reads.Learnt,
-  operand-below t,
-  operand.Post,
-  covered-reads.Asked,
-  covered-reads.Learnt,
-  disjunction-below t,
-  disjunction.Post,
-  closed-reads.Asked,
-  closed-reads.Learnt,
-) (operand-at t) operand.Post
-operand-sub-named t c = ?
-
--- src/levels.rt:147:37
-operand-part-named-start : (t : ℕ) → operand-lts.Need-part-named-start (
-  token-at-reads.Asked,
-  token-at-reads.Learnt,
-  number-reads.Asked,
-  number-reads.Learnt,
-  named-reads.Asked,
-  named-reads.Learnt,
-  stands-alone-reads.Asked,
-  stands-alone-reads.Learnt,
-  bad-reads.Asked,
-  bad-reads.Learnt,
-  operand-below t,
-  operand.Post,
-  covered-reads.Asked,
-  covered-reads.Learnt,
-  disjunction-below t,
-  disjunction.Post,
-  closed-reads.Asked,
-  closed-reads.Learnt,
-) (operand-at t) operand.Post
-operand-part-named-start t c = ?
-
--- src/levels.rt:147:37
-operand-part-named-end : (t : ℕ) → operand-lts.Need-part-named-end (
-  token-at-reads.Asked,
-  token-at-reads.Learnt,
-  number-reads.Asked,
-  number-reads.Learnt,
-  named-reads.Asked,
-  named-reads.Learnt,
-  stands-alone-reads.Asked,
-  stands-alone-reads.Learnt,
-  bad-reads.Asked,
-  bad-reads.Learnt,
-  operand-below t,
-  operand.Post,
-  covered-reads.Asked,
-  covered-reads.Learnt,
-  disjunction-below t,
-  disjunction.Post,
-  closed-reads.Asked,
-  closed-reads.Learnt,
-) (operand-at t) operand.Post
-operand-part-named-end t c = ?
-
--- src/levels.rt:147:24
-operand-named-requires : (t : ℕ) → operand-lts.Need-named-requires (
-  token-at-reads.Asked,
-  token-at-reads.Learnt,
-  number-reads.Asked,
-  number-reads.Learnt,
-  named-reads.Asked,
-  named-reads.Learnt,
-  stands-alone-reads.Asked,
-  stands-alone-reads.Learnt,
-  bad-reads.Asked,
-  bad-reads.Learnt,
-  operand-below t,
-  operand.Post,
-  covered-reads.Asked,
-  covered-reads.Learnt,
-  disjunction-below t,
-  disjunction.Post,
-  closed-reads.Asked,
-  closed-reads.Learnt,
-) (operand-at t) operand.Post
-operand-named-requires t c κs = ?
-
--- src/levels.rt:148:25
-operand-enum-known-token-3 : (t : ℕ) → operand-lts.Need-enum-known-token-3 (
-  token-at-reads.Asked,
-  token-at-reads.Learnt,
-  number-reads.Asked,
-  number-reads.Learnt,
-  named-reads.Asked,
-  named-reads.Learnt,
-  stands-alone-reads.Asked,
-  stands-alone-reads.Learnt,
-  bad-reads.Asked,
-  bad-reads.Learnt,
-  operand-below t,
-  operand.Post,
-  covered-reads.Asked,
-  covered-reads.Learnt,
-  disjunction-below t,
-  disjunction.Post,
-  closed-reads.Asked,
-  closed-reads.Learnt,
-) (operand-at t) operand.Post
-operand-enum-known-token-3 t c = ?
-
--- src/levels.rt:149:17
-operand-stands-alone-requires : (t : ℕ) → operand-lts.Need-stands-alone-requires (
-  token-at-reads.Asked,
-  token-at-reads.Learnt,
-  number-reads.Asked,
-  number-reads.Learnt,
-  named-reads.Asked,
-  named-reads.Learnt,
-  stands-alone-reads.Asked,
-  stands-alone-reads.Learnt,
-  bad-reads.Asked,
-  bad-reads.Learnt,
-  operand-below t,
-  operand.Post,
-  covered-reads.Asked,
-  covered-reads.Learnt,
-  disjunction-below t,
-  disjunction.Post,
-  closed-reads.Asked,
-  closed-reads.Learnt,
-) (operand-at t) operand.Post
-operand-stands-alone-requires t c κs = ?
-
--- src/levels.rt:150:17
-operand-bad-requires : (t : ℕ) → operand-lts.Need-bad-requires (
-  token-at-reads.Asked,
-  token-at-reads.Learnt,
-  number-reads.Asked,
-  number-reads.Learnt,
-  named-reads.Asked,
-  named-reads.Learnt,
-  stands-alone-reads.Asked,
-  stands-alone-reads.Learnt,
-  bad-reads.Asked,
-  bad-reads.Learnt,
-  operand-below t,
-  operand.Post,
-  covered-reads.Asked,
-  covered-reads.Learnt,
-  disjunction-below t,
-  disjunction.Post,
-  closed-reads.Asked,
-  closed-reads.Learnt,
-) (operand-at t) operand.Post
-operand-bad-requires t c κs = ?
-
--- src/levels.rt:150:17
-operand-returns : (t : ℕ) → operand-lts.Need-returns (
-  token-at-reads.Asked,
-  token-at-reads.Learnt,
-  number-reads.Asked,
-  number-reads.Learnt,
-  named-reads.Asked,
-  named-reads.Learnt,
-  stands-alone-reads.Asked,
-  stands-alone-reads.Learnt,
-  bad-reads.Asked,
-  bad-reads.Learnt,
-  operand-below t,
-  operand.Post,
-  covered-reads.Asked,
-  covered-reads.Learnt,
-  disjunction-below t,
-  disjunction.Post,
-  closed-reads.Asked,
-  closed-reads.Learnt,
-) (operand-at t) operand.Post
-operand-returns t c = ?
-
--- src/levels.rt:153:17
-operand-returns-2 : (t : ℕ) → operand-lts.Need-returns-2 (
-  token-at-reads.Asked,
-  token-at-reads.Learnt,
-  number-reads.Asked,
-  number-reads.Learnt,
-  named-reads.Asked,
-  named-reads.Learnt,
-  stands-alone-reads.Asked,
-  stands-alone-reads.Learnt,
-  bad-reads.Asked,
-  bad-reads.Learnt,
-  operand-below t,
-  operand.Post,
-  covered-reads.Asked,
-  covered-reads.Learnt,
-  disjunction-below t,
-  disjunction.Post,
-  closed-reads.Asked,
-  closed-reads.Learnt,
-) (operand-at t) operand.Post
-operand-returns-2 t c = ?
-
--- src/levels.rt:158:59
-operand-sub-operand : (t : ℕ) → operand-lts.Need-sub-operand (
-  token-at-reads.Asked,
-  token-at-reads.Learnt,
-  number-reads.Asked,
-  number-reads.Learnt,
-  named-reads.Asked,
-  named-reads.Learnt,
-  stands-alone-reads.Asked,
-  stands-alone-reads.Learnt,
-  bad-reads.Asked,
-  bad-reads.Learnt,
-  operand-below t,
-  operand.Post,
-  covered-reads.Asked,
-  covered-reads.Learnt,
-  disjunction-below t,
-  disjunction.Post,
-  closed-reads.Asked,
-  closed-reads.Learnt,
-) (operand-at t) operand.Post
-operand-sub-operand t c = ?
-
--- src/levels.rt:158:38
-operand-operand-requires : (t : ℕ) → operand-lts.Need-operand-requires (
-  token-at-reads.Asked,
-  token-at-reads.Learnt,
-  number-reads.Asked,
-  number-reads.Learnt,
-  named-reads.Asked,
-  named-reads.Learnt,
-  stands-alone-reads.Asked,
-  stands-alone-reads.Learnt,
-  bad-reads.Asked,
-  bad-reads.Learnt,
-  operand-below t,
-  operand.Post,
-  covered-reads.Asked,
-  covered-reads.Learnt,
-  disjunction-below t,
-  disjunction.Post,
-  closed-reads.Asked,
-  closed-reads.Learnt,
-) (operand-at t) operand.Post
-operand-operand-requires t c κs = ?
-
--- src/levels.rt:158:13
-operand-covered-requires : (t : ℕ) → operand-lts.Need-covered-requires (
-  token-at-reads.Asked,
-  token-at-reads.Learnt,
-  number-reads.Asked,
-  number-reads.Learnt,
-  named-reads.Asked,
-  named-reads.Learnt,
-  stands-alone-reads.Asked,
-  stands-alone-reads.Learnt,
-  bad-reads.Asked,
-  bad-reads.Learnt,
-  operand-below t,
-  operand.Post,
-  covered-reads.Asked,
-  covered-reads.Learnt,
-  disjunction-below t,
-  disjunction.Post,
-  closed-reads.Asked,
-  closed-reads.Learnt,
-) (operand-at t) operand.Post
-operand-covered-requires t c κs = ?
-
--- src/levels.rt:161:16
-operand-enum-told-2 : (t : ℕ) → operand-lts.Need-enum-told-2 (
-  token-at-reads.Asked,
-  token-at-reads.Learnt,
-  number-reads.Asked,
-  number-reads.Learnt,
-  named-reads.Asked,
-  named-reads.Learnt,
-  stands-alone-reads.Asked,
-  stands-alone-reads.Learnt,
-  bad-reads.Asked,
-  bad-reads.Learnt,
-  operand-below t,
-  operand.Post,
-  covered-reads.Asked,
-  covered-reads.Learnt,
-  disjunction-below t,
-  disjunction.Post,
-  closed-reads.Asked,
-  closed-reads.Learnt,
-) (operand-at t) operand.Post
-operand-enum-told-2 t c = ?
-
--- src/levels.rt:162:17
-operand-returns-3 : (t : ℕ) → operand-lts.Need-returns-3 (
-  token-at-reads.Asked,
-  token-at-reads.Learnt,
-  number-reads.Asked,
-  number-reads.Learnt,
-  named-reads.Asked,
-  named-reads.Learnt,
-  stands-alone-reads.Asked,
-  stands-alone-reads.Learnt,
-  bad-reads.Asked,
-  bad-reads.Learnt,
-  operand-below t,
-  operand.Post,
-  covered-reads.Asked,
-  covered-reads.Learnt,
-  disjunction-below t,
-  disjunction.Post,
-  closed-reads.Asked,
-  closed-reads.Learnt,
-) (operand-at t) operand.Post
-operand-returns-3 t c = ?
-
--- src/levels.rt:167:51
-operand-sub-disjunction : (t : ℕ) → operand-lts.Need-sub-disjunction (
-  token-at-reads.Asked,
-  token-at-reads.Learnt,
-  number-reads.Asked,
-  number-reads.Learnt,
-  named-reads.Asked,
-  named-reads.Learnt,
-  stands-alone-reads.Asked,
-  stands-alone-reads.Learnt,
-  bad-reads.Asked,
-  bad-reads.Learnt,
-  operand-below t,
-  operand.Post,
-  covered-reads.Asked,
-  covered-reads.Learnt,
-  disjunction-below t,
-  disjunction.Post,
-  closed-reads.Asked,
-  closed-reads.Learnt,
-) (operand-at t) operand.Post
-operand-sub-disjunction t c = ?
-
--- src/levels.rt:167:26
-operand-disjunction-requires : (t : ℕ) → operand-lts.Need-disjunction-requires (
-  token-at-reads.Asked,
-  token-at-reads.Learnt,
-  number-reads.Asked,
-  number-reads.Learnt,
-  named-reads.Asked,
-  named-reads.Learnt,
-  stands-alone-reads.Asked,
-  stands-alone-reads.Learnt,
-  bad-reads.Asked,
-  bad-reads.Learnt,
-  operand-below t,
-  operand.Post,
-  covered-reads.Asked,
-  covered-reads.Learnt,
-  disjunction-below t,
-  disjunction.Post,
-  closed-reads.Asked,
-  closed-reads.Learnt,
-) (operand-at t) operand.Post
-operand-disjunction-requires t c κs = ?
-
--- src/levels.rt:167:13
-operand-closed-requires : (t : ℕ) → operand-lts.Need-closed-requires (
-  token-at-reads.Asked,
-  token-at-reads.Learnt,
-  number-reads.Asked,
-  number-reads.Learnt,
-  named-reads.Asked,
-  named-reads.Learnt,
-  stands-alone-reads.Asked,
-  stands-alone-reads.Learnt,
-  bad-reads.Asked,
-  bad-reads.Learnt,
-  operand-below t,
-  operand.Post,
-  covered-reads.Asked,
-  covered-reads.Learnt,
-  disjunction-below t,
-  disjunction.Post,
-  closed-reads.Asked,
-  closed-reads.Learnt,
-) (operand-at t) operand.Post
-operand-closed-requires t c κs = ?
-
--- src/levels.rt:169:23
-operand-enum-told-3 : (t : ℕ) → operand-lts.Need-enum-told-3 (
-  token-at-reads.Asked,
-  token-at-reads.Learnt,
-  number-reads.Asked,
-  number-reads.Learnt,
-  named-reads.Asked,
-  named-reads.Learnt,
-  stands-alone-reads.Asked,
-  stands-alone-reads.Learnt,
-  bad-reads.Asked,
-  bad-reads.Learnt,
-  operand-below t,
-  operand.Post,
-  covered-reads.Asked,
-  covered-reads.Learnt,
-  disjunction-below t,
-  disjunction.Post,
-  closed-reads.Asked,
-  closed-reads.Learnt,
-) (operand-at t) operand.Post
-operand-enum-told-3 t c = ?
-
--- src/levels.rt:169:23
-operand-bad-requires-2 : (t : ℕ) → operand-lts.Need-bad-requires-2 (
-  token-at-reads.Asked,
-  token-at-reads.Learnt,
-  number-reads.Asked,
-  number-reads.Learnt,
-  named-reads.Asked,
-  named-reads.Learnt,
-  stands-alone-reads.Asked,
-  stands-alone-reads.Learnt,
-  bad-reads.Asked,
-  bad-reads.Learnt,
-  operand-below t,
-  operand.Post,
-  covered-reads.Asked,
-  covered-reads.Learnt,
-  disjunction-below t,
-  disjunction.Post,
-  closed-reads.Asked,
-  closed-reads.Learnt,
-) (operand-at t) operand.Post
-operand-bad-requires-2 t c κs = ?
-
--- src/levels.rt:170:25
-operand-enum-told-4 : (t : ℕ) → operand-lts.Need-enum-told-4 (
-  token-at-reads.Asked,
-  token-at-reads.Learnt,
-  number-reads.Asked,
-  number-reads.Learnt,
-  named-reads.Asked,
-  named-reads.Learnt,
-  stands-alone-reads.Asked,
-  stands-alone-reads.Learnt,
-  bad-reads.Asked,
-  bad-reads.Learnt,
-  operand-below t,
-  operand.Post,
-  covered-reads.Asked,
-  covered-reads.Learnt,
-  disjunction-below t,
-  disjunction.Post,
-  closed-reads.Asked,
-  closed-reads.Learnt,
-) (operand-at t) operand.Post
-operand-enum-told-4 t c = ?
-
--- src/levels.rt:170:25
-operand-bad-requires-3 : (t : ℕ) → operand-lts.Need-bad-requires-3 (
-  token-at-reads.Asked,
-  token-at-reads.Learnt,
-  number-reads.Asked,
-  number-reads.Learnt,
-  named-reads.Asked,
-  named-reads.Learnt,
-  stands-alone-reads.Asked,
-  stands-alone-reads.Learnt,
-  bad-reads.Asked,
-  bad-reads.Learnt,
-  operand-below t,
-  operand.Post,
-  covered-reads.Asked,
-  covered-reads.Learnt,
-  disjunction-below t,
-  disjunction.Post,
-  closed-reads.Asked,
-  closed-reads.Learnt,
-) (operand-at t) operand.Post
-operand-bad-requires-3 t c κs = ?
-
--- src/levels.rt:171:27
-operand-enum-told-5 : (t : ℕ) → operand-lts.Need-enum-told-5 (
-  token-at-reads.Asked,
-  token-at-reads.Learnt,
-  number-reads.Asked,
-  number-reads.Learnt,
-  named-reads.Asked,
-  named-reads.Learnt,
-  stands-alone-reads.Asked,
-  stands-alone-reads.Learnt,
-  bad-reads.Asked,
-  bad-reads.Learnt,
-  operand-below t,
-  operand.Post,
-  covered-reads.Asked,
-  covered-reads.Learnt,
-  disjunction-below t,
-  disjunction.Post,
-  closed-reads.Asked,
-  closed-reads.Learnt,
-) (operand-at t) operand.Post
-operand-enum-told-5 t c = ?
-
--- src/levels.rt:171:27
-operand-bad-requires-4 : (t : ℕ) → operand-lts.Need-bad-requires-4 (
-  token-at-reads.Asked,
-  token-at-reads.Learnt,
-  number-reads.Asked,
-  number-reads.Learnt,
-  named-reads.Asked,
-  named-reads.Learnt,
-  stands-alone-reads.Asked,
-  stands-alone-reads.Learnt,
-  bad-reads.Asked,
-  bad-reads.Learnt,
-  operand-below t,
-  operand.Post,
-  covered-reads.Asked,
-  covered-reads.Learnt,
-  disjunction-below t,
-  disjunction.Post,
-  closed-reads.Asked,
-  closed-reads.Learnt,
-) (operand-at t) operand.Post
-operand-bad-requires-4 t c κs = ?
-
--- src/levels.rt:134:1
-operand-returns-4 : (t : ℕ) → operand-lts.Need-returns-4 (
-  token-at-reads.Asked,
-  token-at-reads.Learnt,
-  number-reads.Asked,
-  number-reads.Learnt,
-  named-reads.Asked,
-  named-reads.Learnt,
-  stands-alone-reads.Asked,
-  stands-alone-reads.Learnt,
-  bad-reads.Asked,
-  bad-reads.Learnt,
-  operand-below t,
-  operand.Post,
-  covered-reads.Asked,
-  covered-reads.Learnt,
-  disjunction-below t,
-  disjunction.Post,
-  closed-reads.Asked,
-  closed-reads.Learnt,
-) (operand-at t) operand.Post
-operand-returns-4 t c = ?
-
--- src/levels.rt:134:1
-operand-returns-5 : (t : ℕ) → operand-lts.Need-returns-5 (
-  token-at-reads.Asked,
-  token-at-reads.Learnt,
-  number-reads.Asked,
-  number-reads.Learnt,
-  named-reads.Asked,
-  named-reads.Learnt,
-  stands-alone-reads.Asked,
-  stands-alone-reads.Learnt,
-  bad-reads.Asked,
-  bad-reads.Learnt,
-  operand-below t,
-  operand.Post,
-  covered-reads.Asked,
-  covered-reads.Learnt,
-  disjunction-below t,
-  disjunction.Post,
-  closed-reads.Asked,
-  closed-reads.Learnt,
-) (operand-at t) operand.Post
-operand-returns-5 t c = ?
-
--- src/levels.rt:134:1
-operand-returns-6 : (t : ℕ) → operand-lts.Need-returns-6 (
-  token-at-reads.Asked,
-  token-at-reads.Learnt,
-  number-reads.Asked,
-  number-reads.Learnt,
-  named-reads.Asked,
-  named-reads.Learnt,
-  stands-alone-reads.Asked,
-  stands-alone-reads.Learnt,
-  bad-reads.Asked,
-  bad-reads.Learnt,
-  operand-below t,
-  operand.Post,
-  covered-reads.Asked,
-  covered-reads.Learnt,
-  disjunction-below t,
-  disjunction.Post,
-  closed-reads.Asked,
-  closed-reads.Learnt,
-) (operand-at t) operand.Post
-operand-returns-6 t c = ?
-
--- src/levels.rt:134:1
-operand-returns-7 : (t : ℕ) → operand-lts.Need-returns-7 (
-  token-at-reads.Asked,
-  token-at-reads.Learnt,
-  number-reads.Asked,
-  number-reads.Learnt,
-  named-reads.Asked,
-  named-reads.Learnt,
-  stands-alone-reads.Asked,
-  stands-alone-reads.Learnt,
-  bad-reads.Asked,
-  bad-reads.Learnt,
-  operand-below t,
-  operand.Post,
-  covered-reads.Asked,
-  covered-reads.Learnt,
-  disjunction-below t,
-  disjunction.Post,
-  closed-reads.Asked,
-  closed-reads.Learnt,
-) (operand-at t) operand.Post
-operand-returns-7 t c = ?
-
--- src/levels.rt:134:1
-operand-returns-8 : (t : ℕ) → operand-lts.Need-returns-8 (
-  token-at-reads.Asked,
-  token-at-reads.Learnt,
-  number-reads.Asked,
-  number-reads.Learnt,
-  named-reads.Asked,
-  named-reads.Learnt,
-  stands-alone-reads.Asked,
-  stands-alone-reads.Learnt,
-  bad-reads.Asked,
-  bad-reads.Learnt,
-  operand-below t,
-  operand.Post,
-  covered-reads.Asked,
-  covered-reads.Learnt,
-  disjunction-below t,
-  disjunction.Post,
-  closed-reads.Asked,
-  closed-reads.Learnt,
-) (operand-at t) operand.Post
-operand-returns-8 t c = ?
-
--- src/levels.rt:134:1
-operand-returns-9 : (t : ℕ) → operand-lts.Need-returns-9 (
-  token-at-reads.Asked,
-  token-at-reads.Learnt,
-  number-reads.Asked,
-  number-reads.Learnt,
-  named-reads.Asked,
-  named-reads.Learnt,
-  stands-alone-reads.Asked,
-  stands-alone-reads.Learnt,
-  bad-reads.Asked,
-  bad-reads.Learnt,
-  operand-below t,
-  operand.Post,
-  covered-reads.Asked,
-  covered-reads.Learnt,
-  disjunction-below t,
-  disjunction.Post,
-  closed-reads.Asked,
-  closed-reads.Learnt,
-) (operand-at t) operand.Post
-operand-returns-9 t c = ?
-
--- src/levels.rt:134:1
-operand-returns-10 : (t : ℕ) → operand-lts.Need-returns-10 (
-  token-at-reads.Asked,
-  token-at-reads.Learnt,
-  number-reads.Asked,
-  number-reads.Learnt,
-  named-reads.Asked,
-  named-reads.Learnt,
-  stands-alone-reads.Asked,
-  stands-alone-reads.Learnt,
-  bad-reads.Asked,
-  bad-reads.Learnt,
-  operand-below t,
-  operand.Post,
-  covered-reads.Asked,
-  covered-reads.Learnt,
-  disjunction-below t,
-  disjunction.Post,
-  closed-reads.Asked,
-  closed-reads.Learnt,
-) (operand-at t) operand.Post
-operand-returns-10 t c = ?
-
--- src/levels.rt:134:1
-operand-returns-11 : (t : ℕ) → operand-lts.Need-returns-11 (
-  token-at-reads.Asked,
-  token-at-reads.Learnt,
-  number-reads.Asked,
-  number-reads.Learnt,
-  named-reads.Asked,
-  named-reads.Learnt,
-  stands-alone-reads.Asked,
-  stands-alone-reads.Learnt,
-  bad-reads.Asked,
-  bad-reads.Learnt,
-  operand-below t,
-  operand.Post,
-  covered-reads.Asked,
-  covered-reads.Learnt,
-  disjunction-below t,
-  disjunction.Post,
-  closed-reads.Asked,
-  closed-reads.Learnt,
-) (operand-at t) operand.Post
-operand-returns-11 t c = ?
-
-abbrev relation-Inv-loop : relation-lts.InvT-loop
-relation-Inv-loop text table levels at left₀ left = ?
-
-abbrev relation-μ-loop : relation-lts.MeasureT-loop
-relation-μ-loop text table levels at left₀ left = ?
-
--- src/levels.rt:219:9
-relation-sum-requires : (t : ℕ) → relation-lts.Need-sum-requires (
-  sum-below t,
-  sum.Post,
-  operator-behind-reads.Asked,
-  operator-behind-reads.Learnt,
-  account-of-reads.Asked,
-  account-of-reads.Learnt,
-  joined-reads.Asked,
-  joined-reads.Learnt,
-) (relation-at t) relation.Post relation-Inv-loop relation-μ-loop
-relation-sum-requires t c κs = ?
-
--- src/levels.rt:220:5
-relation-loop-holds : (t : ℕ) → relation-lts.Need-loop-holds (
-  sum-below t,
-  sum.Post,
-  operator-behind-reads.Asked,
-  operator-behind-reads.Learnt,
-  account-of-reads.Asked,
-  account-of-reads.Learnt,
-  joined-reads.Asked,
-  joined-reads.Learnt,
-) (relation-at t) relation.Post relation-Inv-loop relation-μ-loop
-relation-loop-holds t c = ?
-
--- src/levels.rt:221:15
-relation-operator-behind-requires : (t : ℕ) → relation-lts.Need-operator-behind-requires (
-  sum-below t,
-  sum.Post,
-  operator-behind-reads.Asked,
-  operator-behind-reads.Learnt,
-  account-of-reads.Asked,
-  account-of-reads.Learnt,
-  joined-reads.Asked,
-  joined-reads.Learnt,
-) (relation-at t) relation.Post relation-Inv-loop relation-μ-loop
-relation-operator-behind-requires t c κs = ?
-
--- src/levels.rt:222:30
-relation-enum-told : (t : ℕ) → relation-lts.Need-enum-told (
-  sum-below t,
-  sum.Post,
-  operator-behind-reads.Asked,
-  operator-behind-reads.Learnt,
-  account-of-reads.Asked,
-  account-of-reads.Learnt,
-  joined-reads.Asked,
-  joined-reads.Learnt,
-) (relation-at t) relation.Post relation-Inv-loop relation-μ-loop
-relation-enum-told t c = ?
-
--- src/levels.rt:222:30
-relation-returns : (t : ℕ) → relation-lts.Need-returns (
-  sum-below t,
-  sum.Post,
-  operator-behind-reads.Asked,
-  operator-behind-reads.Learnt,
-  account-of-reads.Asked,
-  account-of-reads.Learnt,
-  joined-reads.Asked,
-  joined-reads.Learnt,
-) (relation-at t) relation.Post relation-Inv-loop relation-μ-loop
-relation-returns t c = ?
-
--- src/levels.rt:224:17
-relation-enum-known-operator : (t : ℕ) → relation-lts.Need-enum-known-operator (
-  sum-below t,
-  sum.Post,
-  operator-behind-reads.Asked,
-  operator-behind-reads.Learnt,
-  account-of-reads.Asked,
-  account-of-reads.Learnt,
-  joined-reads.Asked,
-  joined-reads.Learnt,
-) (relation-at t) relation.Post relation-Inv-loop relation-μ-loop
-relation-enum-known-operator t c = ?
-
--- src/levels.rt:228:60
-relation-account-of-requires : (t : ℕ) → relation-lts.Need-account-of-requires (
-  sum-below t,
-  sum.Post,
-  operator-behind-reads.Asked,
-  operator-behind-reads.Learnt,
-  account-of-reads.Asked,
-  account-of-reads.Learnt,
-  joined-reads.Asked,
-  joined-reads.Learnt,
-) (relation-at t) relation.Post relation-Inv-loop relation-μ-loop
-relation-account-of-requires t c κs = ?
-
--- src/levels.rt:228:21
-relation-sum-requires-2 : (t : ℕ) → relation-lts.Need-sum-requires-2 (
-  sum-below t,
-  sum.Post,
-  operator-behind-reads.Asked,
-  operator-behind-reads.Learnt,
-  account-of-reads.Asked,
-  account-of-reads.Learnt,
-  joined-reads.Asked,
-  joined-reads.Learnt,
-) (relation-at t) relation.Post relation-Inv-loop relation-μ-loop
-relation-sum-requires-2 t c κs = ?
-
--- src/levels.rt:229:17
-relation-joined-requires : (t : ℕ) → relation-lts.Need-joined-requires (
-  sum-below t,
-  sum.Post,
-  operator-behind-reads.Asked,
-  operator-behind-reads.Learnt,
-  account-of-reads.Asked,
-  account-of-reads.Learnt,
-  joined-reads.Asked,
-  joined-reads.Learnt,
-) (relation-at t) relation.Post relation-Inv-loop relation-μ-loop
-relation-joined-requires t c κs = ?
-
--- src/levels.rt:220:5
-relation-loop-less : (t : ℕ) → relation-lts.Need-loop-less (
-  sum-below t,
-  sum.Post,
-  operator-behind-reads.Asked,
-  operator-behind-reads.Learnt,
-  account-of-reads.Asked,
-  account-of-reads.Learnt,
-  joined-reads.Asked,
-  joined-reads.Learnt,
-) (relation-at t) relation.Post relation-Inv-loop relation-μ-loop
-relation-loop-less t c = ?
-
--- src/levels.rt:220:5
-relation-loop-again : (t : ℕ) → relation-lts.Need-loop-again (
-  sum-below t,
-  sum.Post,
-  operator-behind-reads.Asked,
-  operator-behind-reads.Learnt,
-  account-of-reads.Asked,
-  account-of-reads.Learnt,
-  joined-reads.Asked,
-  joined-reads.Learnt,
-) (relation-at t) relation.Post relation-Inv-loop relation-μ-loop
-relation-loop-again t c = ?
-
-abbrev sum-Inv-loop : sum-lts.InvT-loop
-sum-Inv-loop text table levels at left₀ left = ?
-
-abbrev sum-μ-loop : sum-lts.MeasureT-loop
-sum-μ-loop text table levels at left₀ left = ?
-
--- src/levels.rt:199:9
-sum-term-requires : (t : ℕ) → sum-lts.Need-term-requires (
+abbrev sum-calls : ℕ → sum-lts.Claims
+sum-calls t = (
   term-below t,
   term.Post,
   operator-behind-reads.Asked,
@@ -1386,304 +123,476 @@ sum-term-requires : (t : ℕ) → sum-lts.Need-term-requires (
   account-of-reads.Learnt,
   joined-reads.Asked,
   joined-reads.Learnt,
-) (sum-at t) sum.Post sum-Inv-loop sum-μ-loop
-sum-term-requires t c κs = ?
+)
 
--- src/levels.rt:200:5
-sum-loop-holds : (t : ℕ) → sum-lts.Need-loop-holds (
-  term-below t,
-  term.Post,
+abbrev relation-calls : ℕ → relation-lts.Claims
+relation-calls t = (
+  sum-below t,
+  sum.Post,
   operator-behind-reads.Asked,
   operator-behind-reads.Learnt,
   account-of-reads.Asked,
   account-of-reads.Learnt,
   joined-reads.Asked,
   joined-reads.Learnt,
-) (sum-at t) sum.Post sum-Inv-loop sum-μ-loop
-sum-loop-holds t c = ?
+)
 
--- src/levels.rt:201:15
-sum-operator-behind-requires : (t : ℕ) → sum-lts.Need-operator-behind-requires (
-  term-below t,
-  term.Post,
+abbrev conjunction-calls : ℕ → conjunction-lts.Claims
+conjunction-calls t = (
+  relation-below t,
+  relation.Post,
   operator-behind-reads.Asked,
   operator-behind-reads.Learnt,
   account-of-reads.Asked,
   account-of-reads.Learnt,
   joined-reads.Asked,
   joined-reads.Learnt,
-) (sum-at t) sum.Post sum-Inv-loop sum-μ-loop
-sum-operator-behind-requires t c κs = ?
+)
 
--- src/levels.rt:202:30
-sum-enum-told : (t : ℕ) → sum-lts.Need-enum-told (
-  term-below t,
-  term.Post,
+abbrev disjunction-calls : ℕ → disjunction-lts.Claims
+disjunction-calls t = (
+  conjunction-below t,
+  conjunction.Post,
   operator-behind-reads.Asked,
   operator-behind-reads.Learnt,
   account-of-reads.Asked,
   account-of-reads.Learnt,
   joined-reads.Asked,
   joined-reads.Learnt,
-) (sum-at t) sum.Post sum-Inv-loop sum-μ-loop
-sum-enum-told t c = ?
+)
 
--- src/levels.rt:202:30
-sum-returns : (t : ℕ) → sum-lts.Need-returns (
-  term-below t,
-  term.Post,
-  operator-behind-reads.Asked,
-  operator-behind-reads.Learnt,
-  account-of-reads.Asked,
-  account-of-reads.Learnt,
-  joined-reads.Asked,
-  joined-reads.Learnt,
-) (sum-at t) sum.Post sum-Inv-loop sum-μ-loop
-sum-returns t c = ?
-
--- src/levels.rt:204:17
-sum-enum-known-operator : (t : ℕ) → sum-lts.Need-enum-known-operator (
-  term-below t,
-  term.Post,
-  operator-behind-reads.Asked,
-  operator-behind-reads.Learnt,
-  account-of-reads.Asked,
-  account-of-reads.Learnt,
-  joined-reads.Asked,
-  joined-reads.Learnt,
-) (sum-at t) sum.Post sum-Inv-loop sum-μ-loop
-sum-enum-known-operator t c = ?
-
--- src/levels.rt:208:61
-sum-account-of-requires : (t : ℕ) → sum-lts.Need-account-of-requires (
-  term-below t,
-  term.Post,
-  operator-behind-reads.Asked,
-  operator-behind-reads.Learnt,
-  account-of-reads.Asked,
-  account-of-reads.Learnt,
-  joined-reads.Asked,
-  joined-reads.Learnt,
-) (sum-at t) sum.Post sum-Inv-loop sum-μ-loop
-sum-account-of-requires t c κs = ?
-
--- src/levels.rt:208:21
-sum-term-requires-2 : (t : ℕ) → sum-lts.Need-term-requires-2 (
-  term-below t,
-  term.Post,
-  operator-behind-reads.Asked,
-  operator-behind-reads.Learnt,
-  account-of-reads.Asked,
-  account-of-reads.Learnt,
-  joined-reads.Asked,
-  joined-reads.Learnt,
-) (sum-at t) sum.Post sum-Inv-loop sum-μ-loop
-sum-term-requires-2 t c κs = ?
-
--- src/levels.rt:209:17
-sum-joined-requires : (t : ℕ) → sum-lts.Need-joined-requires (
-  term-below t,
-  term.Post,
-  operator-behind-reads.Asked,
-  operator-behind-reads.Learnt,
-  account-of-reads.Asked,
-  account-of-reads.Learnt,
-  joined-reads.Asked,
-  joined-reads.Learnt,
-) (sum-at t) sum.Post sum-Inv-loop sum-μ-loop
-sum-joined-requires t c κs = ?
-
--- src/levels.rt:200:5
-sum-loop-less : (t : ℕ) → sum-lts.Need-loop-less (
-  term-below t,
-  term.Post,
-  operator-behind-reads.Asked,
-  operator-behind-reads.Learnt,
-  account-of-reads.Asked,
-  account-of-reads.Learnt,
-  joined-reads.Asked,
-  joined-reads.Learnt,
-) (sum-at t) sum.Post sum-Inv-loop sum-μ-loop
-sum-loop-less t c = ?
-
--- src/levels.rt:200:5
-sum-loop-again : (t : ℕ) → sum-lts.Need-loop-again (
-  term-below t,
-  term.Post,
-  operator-behind-reads.Asked,
-  operator-behind-reads.Learnt,
-  account-of-reads.Asked,
-  account-of-reads.Learnt,
-  joined-reads.Asked,
-  joined-reads.Learnt,
-) (sum-at t) sum.Post sum-Inv-loop sum-μ-loop
-sum-loop-again t c = ?
-
+-- A level: its invariant is the part so far as a tree from which the level goes on, whatever the account was at its start
 abbrev term-Inv-loop : term-lts.InvT-loop
-term-Inv-loop text table levels at left₀ left = ?
+term-Inv-loop text table levels at left₀ left =
+    (account : Account) → left₀ ≡ partOf (namesOf table) account (levelAt text 0 (operandAt text levels) at) → Chain (namesOf table) text 0 levels account at left
 
 abbrev term-μ-loop : term-lts.MeasureT-loop
-term-μ-loop text table levels at left₀ left = ?
+term-μ-loop text table levels at left₀ left = remaining (length text) left
 
--- src/levels.rt:179:9
-term-operand-requires : (t : ℕ) → term-lts.Need-operand-requires (
+term-operand-requires : (t : ℕ) → term-lts.Need-operand-requires (term-calls t) (term-at t) term.Post term-Inv-loop term-μ-loop
+term-operand-requires t c κs = (omega (arith, c .before .before .pre .0), tt)
+
+term-loop-holds : (t : ℕ) → term-lts.Need-loop-holds (term-calls t) (term-at t) term.Post term-Inv-loop term-μ-loop
+term-loop-holds t c = λ account e. begins _ _ _ _ account _ _ e
+
+term-operator-behind-requires : (t : ℕ) → term-lts.Need-operator-behind-requires (term-calls t) (term-at t) term.Post term-Inv-loop term-μ-loop
+term-operator-behind-requires t c κs = search needs
+
+term-enum-told : (t : ℕ) → term-lts.Need-enum-told (term-calls t) (term-at t) term.Post term-Inv-loop term-μ-loop
+term-enum-told t c = search needs
+
+term-returns : (t : ℕ) → term-lts.Need-returns (term-calls t) (term-at t) term.Post term-Inv-loop term-μ-loop
+term-returns t c =
+    let a = c .before .before .before .before .before .before .before .args in
+    ends (namesOf (a .table .now)) (a .text .now) 0 (a .levels) (a .account) (a .at) _ (c .before .before .before .loop .inv (a .account) (c .before .before .before .before .operand .ensures))
+    (sym (c .before .before .operator-behind .ensures) ∙ c .enum-told .given .1)
+
+term-enum-known-operator : (t : ℕ) → term-lts.Need-enum-known-operator (term-calls t) (term-at t) term.Post term-Inv-loop term-μ-loop
+term-enum-known-operator t c = search needs
+
+term-account-of-requires : (t : ℕ) → term-lts.Need-account-of-requires (term-calls t) (term-at t) term.Post term-Inv-loop term-μ-loop
+term-account-of-requires t c κs = search needs
+
+term-operand-requires-2 : (t : ℕ) → term-lts.Need-operand-requires-2 (term-calls t) (term-at t) term.Post term-Inv-loop term-μ-loop
+term-operand-requires-2 t c κs = (omega (arith, c .before .before .before .before .before .before .before .before .before .pre .0), tt)
+
+term-joined-requires : (t : ℕ) → term-lts.Need-joined-requires (term-calls t) (term-at t) term.Post term-Inv-loop term-μ-loop
+term-joined-requires t c κs = search needs
+
+term-loop-less : (t : ℕ) → term-lts.Need-loop-less (term-calls t) (term-at t) term.Post term-Inv-loop term-μ-loop
+term-loop-less t c =
+    let a = c .before .before .before .before .before .before .before .before .before .before .before .args in
+    falls-behind (namesOf (a .table .now)) (a .text .now) 0 (a .levels) (c .before .before .before .before .operator .given .0 .0) (c .before .before .before .before .operator .given .0 .1 .0) (c .before .before .before .before .operator .given .0 .1 .1 .0) _ (c .before .before .before .before .before .before .before .loop .left) _ _
+    (sym (c .before .before .before .before .before .before .operator-behind .ensures) ∙ c .before .before .before .before .operator .given .1)
+    (c .before .operand2 .ensures) (c .joined .ensures)
+
+term-loop-again : (t : ℕ) → term-lts.Need-loop-again (term-calls t) (term-at t) term.Post term-Inv-loop term-μ-loop
+term-loop-again t c =
+    let a = c .before .before .before .before .before .before .before .before .before .before .before .args in
+    λ account e. goes-on (namesOf (a .table .now)) (a .text .now) 0 (a .levels) account (a .at) (c .before .before .before .before .operator .given .0 .0) (c .before .before .before .before .operator .given .0 .1 .0) (c .before .before .before .before .operator .given .0 .1 .1 .0) (c .before .before .before .before .before .before .before .loop .left) _ _ (c .before .before .before .before .before .before .before .loop .inv account e)
+    (sym (c .before .before .before .before .before .before .operator-behind .ensures) ∙ c .before .before .before .before .operator .given .1)
+    (c .before .operand2 .ensures ∙ ap (λ x. partOf (namesOf (a .table .now)) x (levelAt (a .text .now) 0 (operandAt (a .text .now) (a .levels)) (c .before .before .before .before .operator .given .0 .1 .1 .0))) (c .before .before .account-of .ensures)) (c .joined .ensures)
+
+abbrev sum-Inv-loop : sum-lts.InvT-loop
+sum-Inv-loop text table levels at left₀ left =
+    (account : Account) → left₀ ≡ partOf (namesOf table) account (levelAt text 1 (operandAt text levels) at) → Chain (namesOf table) text 1 levels account at left
+
+abbrev sum-μ-loop : sum-lts.MeasureT-loop
+sum-μ-loop text table levels at left₀ left = remaining (length text) left
+
+sum-term-requires : (t : ℕ) → sum-lts.Need-term-requires (sum-calls t) (sum-at t) sum.Post sum-Inv-loop sum-μ-loop
+sum-term-requires t c κs = (omega (arith, c .before .before .pre .0), tt)
+
+sum-loop-holds : (t : ℕ) → sum-lts.Need-loop-holds (sum-calls t) (sum-at t) sum.Post sum-Inv-loop sum-μ-loop
+sum-loop-holds t c = λ account e. begins _ _ _ _ account _ _ e
+
+sum-operator-behind-requires : (t : ℕ) → sum-lts.Need-operator-behind-requires (sum-calls t) (sum-at t) sum.Post sum-Inv-loop sum-μ-loop
+sum-operator-behind-requires t c κs = search needs
+
+sum-enum-told : (t : ℕ) → sum-lts.Need-enum-told (sum-calls t) (sum-at t) sum.Post sum-Inv-loop sum-μ-loop
+sum-enum-told t c = search needs
+
+sum-returns : (t : ℕ) → sum-lts.Need-returns (sum-calls t) (sum-at t) sum.Post sum-Inv-loop sum-μ-loop
+sum-returns t c =
+    let a = c .before .before .before .before .before .before .before .args in
+    ends (namesOf (a .table .now)) (a .text .now) 1 (a .levels) (a .account) (a .at) _ (c .before .before .before .loop .inv (a .account) (c .before .before .before .before .term .ensures))
+    (sym (c .before .before .operator-behind .ensures) ∙ c .enum-told .given .1)
+
+sum-enum-known-operator : (t : ℕ) → sum-lts.Need-enum-known-operator (sum-calls t) (sum-at t) sum.Post sum-Inv-loop sum-μ-loop
+sum-enum-known-operator t c = search needs
+
+sum-account-of-requires : (t : ℕ) → sum-lts.Need-account-of-requires (sum-calls t) (sum-at t) sum.Post sum-Inv-loop sum-μ-loop
+sum-account-of-requires t c κs = search needs
+
+sum-term-requires-2 : (t : ℕ) → sum-lts.Need-term-requires-2 (sum-calls t) (sum-at t) sum.Post sum-Inv-loop sum-μ-loop
+sum-term-requires-2 t c κs = (omega (arith, c .before .before .before .before .before .before .before .before .before .pre .0), tt)
+
+sum-joined-requires : (t : ℕ) → sum-lts.Need-joined-requires (sum-calls t) (sum-at t) sum.Post sum-Inv-loop sum-μ-loop
+sum-joined-requires t c κs = search needs
+
+sum-loop-less : (t : ℕ) → sum-lts.Need-loop-less (sum-calls t) (sum-at t) sum.Post sum-Inv-loop sum-μ-loop
+sum-loop-less t c =
+    let a = c .before .before .before .before .before .before .before .before .before .before .before .args in
+    falls-behind (namesOf (a .table .now)) (a .text .now) 1 (a .levels) (c .before .before .before .before .operator .given .0 .0) (c .before .before .before .before .operator .given .0 .1 .0) (c .before .before .before .before .operator .given .0 .1 .1 .0) _ (c .before .before .before .before .before .before .before .loop .left) _ _
+    (sym (c .before .before .before .before .before .before .operator-behind .ensures) ∙ c .before .before .before .before .operator .given .1)
+    (c .before .term2 .ensures) (c .joined .ensures)
+
+sum-loop-again : (t : ℕ) → sum-lts.Need-loop-again (sum-calls t) (sum-at t) sum.Post sum-Inv-loop sum-μ-loop
+sum-loop-again t c =
+    let a = c .before .before .before .before .before .before .before .before .before .before .before .args in
+    λ account e. goes-on (namesOf (a .table .now)) (a .text .now) 1 (a .levels) account (a .at) (c .before .before .before .before .operator .given .0 .0) (c .before .before .before .before .operator .given .0 .1 .0) (c .before .before .before .before .operator .given .0 .1 .1 .0) (c .before .before .before .before .before .before .before .loop .left) _ _ (c .before .before .before .before .before .before .before .loop .inv account e)
+    (sym (c .before .before .before .before .before .before .operator-behind .ensures) ∙ c .before .before .before .before .operator .given .1)
+    (c .before .term2 .ensures ∙ ap (λ x. partOf (namesOf (a .table .now)) x (levelAt (a .text .now) 1 (operandAt (a .text .now) (a .levels)) (c .before .before .before .before .operator .given .0 .1 .1 .0))) (c .before .before .account-of .ensures)) (c .joined .ensures)
+
+abbrev relation-Inv-loop : relation-lts.InvT-loop
+relation-Inv-loop text table levels at left₀ left =
+    (account : Account) → left₀ ≡ partOf (namesOf table) account (levelAt text 2 (operandAt text levels) at) → Chain (namesOf table) text 2 levels account at left
+
+abbrev relation-μ-loop : relation-lts.MeasureT-loop
+relation-μ-loop text table levels at left₀ left = remaining (length text) left
+
+relation-sum-requires : (t : ℕ) → relation-lts.Need-sum-requires (relation-calls t) (relation-at t) relation.Post relation-Inv-loop relation-μ-loop
+relation-sum-requires t c κs = (omega (arith, c .before .before .pre .0), tt)
+
+relation-loop-holds : (t : ℕ) → relation-lts.Need-loop-holds (relation-calls t) (relation-at t) relation.Post relation-Inv-loop relation-μ-loop
+relation-loop-holds t c = λ account e. begins _ _ _ _ account _ _ e
+
+relation-operator-behind-requires : (t : ℕ) → relation-lts.Need-operator-behind-requires (relation-calls t) (relation-at t) relation.Post relation-Inv-loop relation-μ-loop
+relation-operator-behind-requires t c κs = search needs
+
+relation-enum-told : (t : ℕ) → relation-lts.Need-enum-told (relation-calls t) (relation-at t) relation.Post relation-Inv-loop relation-μ-loop
+relation-enum-told t c = search needs
+
+relation-returns : (t : ℕ) → relation-lts.Need-returns (relation-calls t) (relation-at t) relation.Post relation-Inv-loop relation-μ-loop
+relation-returns t c =
+    let a = c .before .before .before .before .before .before .before .args in
+    ends (namesOf (a .table .now)) (a .text .now) 2 (a .levels) (a .account) (a .at) _ (c .before .before .before .loop .inv (a .account) (c .before .before .before .before .sum .ensures))
+    (sym (c .before .before .operator-behind .ensures) ∙ c .enum-told .given .1)
+
+relation-enum-known-operator : (t : ℕ) → relation-lts.Need-enum-known-operator (relation-calls t) (relation-at t) relation.Post relation-Inv-loop relation-μ-loop
+relation-enum-known-operator t c = search needs
+
+relation-account-of-requires : (t : ℕ) → relation-lts.Need-account-of-requires (relation-calls t) (relation-at t) relation.Post relation-Inv-loop relation-μ-loop
+relation-account-of-requires t c κs = search needs
+
+relation-sum-requires-2 : (t : ℕ) → relation-lts.Need-sum-requires-2 (relation-calls t) (relation-at t) relation.Post relation-Inv-loop relation-μ-loop
+relation-sum-requires-2 t c κs = (omega (arith, c .before .before .before .before .before .before .before .before .before .pre .0), tt)
+
+relation-joined-requires : (t : ℕ) → relation-lts.Need-joined-requires (relation-calls t) (relation-at t) relation.Post relation-Inv-loop relation-μ-loop
+relation-joined-requires t c κs = search needs
+
+relation-loop-less : (t : ℕ) → relation-lts.Need-loop-less (relation-calls t) (relation-at t) relation.Post relation-Inv-loop relation-μ-loop
+relation-loop-less t c =
+    let a = c .before .before .before .before .before .before .before .before .before .before .before .args in
+    falls-behind (namesOf (a .table .now)) (a .text .now) 2 (a .levels) (c .before .before .before .before .operator .given .0 .0) (c .before .before .before .before .operator .given .0 .1 .0) (c .before .before .before .before .operator .given .0 .1 .1 .0) _ (c .before .before .before .before .before .before .before .loop .left) _ _
+    (sym (c .before .before .before .before .before .before .operator-behind .ensures) ∙ c .before .before .before .before .operator .given .1)
+    (c .before .sum2 .ensures) (c .joined .ensures)
+
+relation-loop-again : (t : ℕ) → relation-lts.Need-loop-again (relation-calls t) (relation-at t) relation.Post relation-Inv-loop relation-μ-loop
+relation-loop-again t c =
+    let a = c .before .before .before .before .before .before .before .before .before .before .before .args in
+    λ account e. goes-on (namesOf (a .table .now)) (a .text .now) 2 (a .levels) account (a .at) (c .before .before .before .before .operator .given .0 .0) (c .before .before .before .before .operator .given .0 .1 .0) (c .before .before .before .before .operator .given .0 .1 .1 .0) (c .before .before .before .before .before .before .before .loop .left) _ _ (c .before .before .before .before .before .before .before .loop .inv account e)
+    (sym (c .before .before .before .before .before .before .operator-behind .ensures) ∙ c .before .before .before .before .operator .given .1)
+    (c .before .sum2 .ensures ∙ ap (λ x. partOf (namesOf (a .table .now)) x (levelAt (a .text .now) 2 (operandAt (a .text .now) (a .levels)) (c .before .before .before .before .operator .given .0 .1 .1 .0))) (c .before .before .account-of .ensures)) (c .joined .ensures)
+
+abbrev conjunction-Inv-loop : conjunction-lts.InvT-loop
+conjunction-Inv-loop text table levels at left₀ left =
+    (account : Account) → left₀ ≡ partOf (namesOf table) account (levelAt text 3 (operandAt text levels) at) → Chain (namesOf table) text 3 levels account at left
+
+abbrev conjunction-μ-loop : conjunction-lts.MeasureT-loop
+conjunction-μ-loop text table levels at left₀ left = remaining (length text) left
+
+conjunction-relation-requires : (t : ℕ) → conjunction-lts.Need-relation-requires (conjunction-calls t) (conjunction-at t) conjunction.Post conjunction-Inv-loop conjunction-μ-loop
+conjunction-relation-requires t c κs = (omega (arith, c .before .before .pre .0), tt)
+
+conjunction-loop-holds : (t : ℕ) → conjunction-lts.Need-loop-holds (conjunction-calls t) (conjunction-at t) conjunction.Post conjunction-Inv-loop conjunction-μ-loop
+conjunction-loop-holds t c = λ account e. begins _ _ _ _ account _ _ e
+
+conjunction-operator-behind-requires : (t : ℕ) → conjunction-lts.Need-operator-behind-requires (conjunction-calls t) (conjunction-at t) conjunction.Post conjunction-Inv-loop conjunction-μ-loop
+conjunction-operator-behind-requires t c κs = search needs
+
+conjunction-enum-told : (t : ℕ) → conjunction-lts.Need-enum-told (conjunction-calls t) (conjunction-at t) conjunction.Post conjunction-Inv-loop conjunction-μ-loop
+conjunction-enum-told t c = search needs
+
+conjunction-returns : (t : ℕ) → conjunction-lts.Need-returns (conjunction-calls t) (conjunction-at t) conjunction.Post conjunction-Inv-loop conjunction-μ-loop
+conjunction-returns t c =
+    let a = c .before .before .before .before .before .before .before .args in
+    ends (namesOf (a .table .now)) (a .text .now) 3 (a .levels) (a .account) (a .at) _ (c .before .before .before .loop .inv (a .account) (c .before .before .before .before .relation .ensures))
+    (sym (c .before .before .operator-behind .ensures) ∙ c .enum-told .given .1)
+
+conjunction-enum-known-operator : (t : ℕ) → conjunction-lts.Need-enum-known-operator (conjunction-calls t) (conjunction-at t) conjunction.Post conjunction-Inv-loop conjunction-μ-loop
+conjunction-enum-known-operator t c = search needs
+
+conjunction-account-of-requires : (t : ℕ) → conjunction-lts.Need-account-of-requires (conjunction-calls t) (conjunction-at t) conjunction.Post conjunction-Inv-loop conjunction-μ-loop
+conjunction-account-of-requires t c κs = search needs
+
+conjunction-relation-requires-2 : (t : ℕ) → conjunction-lts.Need-relation-requires-2 (conjunction-calls t) (conjunction-at t) conjunction.Post conjunction-Inv-loop conjunction-μ-loop
+conjunction-relation-requires-2 t c κs = (omega (arith, c .before .before .before .before .before .before .before .before .before .pre .0), tt)
+
+conjunction-joined-requires : (t : ℕ) → conjunction-lts.Need-joined-requires (conjunction-calls t) (conjunction-at t) conjunction.Post conjunction-Inv-loop conjunction-μ-loop
+conjunction-joined-requires t c κs = search needs
+
+conjunction-loop-less : (t : ℕ) → conjunction-lts.Need-loop-less (conjunction-calls t) (conjunction-at t) conjunction.Post conjunction-Inv-loop conjunction-μ-loop
+conjunction-loop-less t c =
+    let a = c .before .before .before .before .before .before .before .before .before .before .before .args in
+    falls-behind (namesOf (a .table .now)) (a .text .now) 3 (a .levels) (c .before .before .before .before .operator .given .0 .0) (c .before .before .before .before .operator .given .0 .1 .0) (c .before .before .before .before .operator .given .0 .1 .1 .0) _ (c .before .before .before .before .before .before .before .loop .left) _ _
+    (sym (c .before .before .before .before .before .before .operator-behind .ensures) ∙ c .before .before .before .before .operator .given .1)
+    (c .before .relation2 .ensures) (c .joined .ensures)
+
+conjunction-loop-again : (t : ℕ) → conjunction-lts.Need-loop-again (conjunction-calls t) (conjunction-at t) conjunction.Post conjunction-Inv-loop conjunction-μ-loop
+conjunction-loop-again t c =
+    let a = c .before .before .before .before .before .before .before .before .before .before .before .args in
+    λ account e. goes-on (namesOf (a .table .now)) (a .text .now) 3 (a .levels) account (a .at) (c .before .before .before .before .operator .given .0 .0) (c .before .before .before .before .operator .given .0 .1 .0) (c .before .before .before .before .operator .given .0 .1 .1 .0) (c .before .before .before .before .before .before .before .loop .left) _ _ (c .before .before .before .before .before .before .before .loop .inv account e)
+    (sym (c .before .before .before .before .before .before .operator-behind .ensures) ∙ c .before .before .before .before .operator .given .1)
+    (c .before .relation2 .ensures ∙ ap (λ x. partOf (namesOf (a .table .now)) x (levelAt (a .text .now) 3 (operandAt (a .text .now) (a .levels)) (c .before .before .before .before .operator .given .0 .1 .1 .0))) (c .before .before .account-of .ensures)) (c .joined .ensures)
+
+abbrev disjunction-Inv-loop : disjunction-lts.InvT-loop
+disjunction-Inv-loop text table levels at left₀ left =
+    (account : Account) → left₀ ≡ partOf (namesOf table) account (levelAt text 4 (operandAt text levels) at) → Chain (namesOf table) text 4 levels account at left
+
+abbrev disjunction-μ-loop : disjunction-lts.MeasureT-loop
+disjunction-μ-loop text table levels at left₀ left = remaining (length text) left
+
+disjunction-conjunction-requires : (t : ℕ) → disjunction-lts.Need-conjunction-requires (disjunction-calls t) (disjunction-at t) disjunction.Post disjunction-Inv-loop disjunction-μ-loop
+disjunction-conjunction-requires t c κs = (omega (arith, c .before .before .pre .0), tt)
+
+disjunction-loop-holds : (t : ℕ) → disjunction-lts.Need-loop-holds (disjunction-calls t) (disjunction-at t) disjunction.Post disjunction-Inv-loop disjunction-μ-loop
+disjunction-loop-holds t c = λ account e. begins _ _ _ _ account _ _ e
+
+disjunction-operator-behind-requires : (t : ℕ) → disjunction-lts.Need-operator-behind-requires (disjunction-calls t) (disjunction-at t) disjunction.Post disjunction-Inv-loop disjunction-μ-loop
+disjunction-operator-behind-requires t c κs = search needs
+
+disjunction-enum-told : (t : ℕ) → disjunction-lts.Need-enum-told (disjunction-calls t) (disjunction-at t) disjunction.Post disjunction-Inv-loop disjunction-μ-loop
+disjunction-enum-told t c = search needs
+
+disjunction-returns : (t : ℕ) → disjunction-lts.Need-returns (disjunction-calls t) (disjunction-at t) disjunction.Post disjunction-Inv-loop disjunction-μ-loop
+disjunction-returns t c =
+    let a = c .before .before .before .before .before .before .before .args in
+    ends (namesOf (a .table .now)) (a .text .now) 4 (a .levels) (a .account) (a .at) _ (c .before .before .before .loop .inv (a .account) (c .before .before .before .before .conjunction .ensures))
+    (sym (c .before .before .operator-behind .ensures) ∙ c .enum-told .given .1)
+
+disjunction-enum-known-operator : (t : ℕ) → disjunction-lts.Need-enum-known-operator (disjunction-calls t) (disjunction-at t) disjunction.Post disjunction-Inv-loop disjunction-μ-loop
+disjunction-enum-known-operator t c = search needs
+
+disjunction-account-of-requires : (t : ℕ) → disjunction-lts.Need-account-of-requires (disjunction-calls t) (disjunction-at t) disjunction.Post disjunction-Inv-loop disjunction-μ-loop
+disjunction-account-of-requires t c κs = search needs
+
+disjunction-conjunction-requires-2 : (t : ℕ) → disjunction-lts.Need-conjunction-requires-2 (disjunction-calls t) (disjunction-at t) disjunction.Post disjunction-Inv-loop disjunction-μ-loop
+disjunction-conjunction-requires-2 t c κs = (omega (arith, c .before .before .before .before .before .before .before .before .before .pre .0), tt)
+
+disjunction-joined-requires : (t : ℕ) → disjunction-lts.Need-joined-requires (disjunction-calls t) (disjunction-at t) disjunction.Post disjunction-Inv-loop disjunction-μ-loop
+disjunction-joined-requires t c κs = search needs
+
+disjunction-loop-less : (t : ℕ) → disjunction-lts.Need-loop-less (disjunction-calls t) (disjunction-at t) disjunction.Post disjunction-Inv-loop disjunction-μ-loop
+disjunction-loop-less t c =
+    let a = c .before .before .before .before .before .before .before .before .before .before .before .args in
+    falls-behind (namesOf (a .table .now)) (a .text .now) 4 (a .levels) (c .before .before .before .before .operator .given .0 .0) (c .before .before .before .before .operator .given .0 .1 .0) (c .before .before .before .before .operator .given .0 .1 .1 .0) _ (c .before .before .before .before .before .before .before .loop .left) _ _
+    (sym (c .before .before .before .before .before .before .operator-behind .ensures) ∙ c .before .before .before .before .operator .given .1)
+    (c .before .conjunction2 .ensures) (c .joined .ensures)
+
+disjunction-loop-again : (t : ℕ) → disjunction-lts.Need-loop-again (disjunction-calls t) (disjunction-at t) disjunction.Post disjunction-Inv-loop disjunction-μ-loop
+disjunction-loop-again t c =
+    let a = c .before .before .before .before .before .before .before .before .before .before .before .args in
+    λ account e. goes-on (namesOf (a .table .now)) (a .text .now) 4 (a .levels) account (a .at) (c .before .before .before .before .operator .given .0 .0) (c .before .before .before .before .operator .given .0 .1 .0) (c .before .before .before .before .operator .given .0 .1 .1 .0) (c .before .before .before .before .before .before .before .loop .left) _ _ (c .before .before .before .before .before .before .before .loop .inv account e)
+    (sym (c .before .before .before .before .before .before .operator-behind .ensures) ∙ c .before .before .before .before .operator .given .1)
+    (c .before .conjunction2 .ensures ∙ ap (λ x. partOf (namesOf (a .table .now)) x (levelAt (a .text .now) 4 (operandAt (a .text .now) (a .levels)) (c .before .before .before .before .operator .given .0 .1 .1 .0))) (c .before .before .account-of .ensures)) (c .joined .ensures)
+
+abbrev operand-calls : ℕ → operand-lts.Claims
+operand-calls t = (
+  token-at-reads.Asked,
+  token-at-reads.Learnt,
+  number-reads.Asked,
+  number-reads.Learnt,
+  named-reads.Asked,
+  named-reads.Learnt,
+  stands-alone-reads.Asked,
+  stands-alone-reads.Learnt,
+  bad-reads.Asked,
+  bad-reads.Learnt,
   operand-below t,
   operand.Post,
-  operator-behind-reads.Asked,
-  operator-behind-reads.Learnt,
-  account-of-reads.Asked,
-  account-of-reads.Learnt,
-  joined-reads.Asked,
-  joined-reads.Learnt,
-) (term-at t) term.Post term-Inv-loop term-μ-loop
-term-operand-requires t c κs = ?
+  covered-reads.Asked,
+  covered-reads.Learnt,
+  disjunction-below t,
+  disjunction.Post,
+  closed-reads.Asked,
+  closed-reads.Learnt,
+)
 
--- src/levels.rt:180:5
-term-loop-holds : (t : ℕ) → term-lts.Need-loop-holds (
-  operand-below t,
-  operand.Post,
-  operator-behind-reads.Asked,
-  operator-behind-reads.Learnt,
-  account-of-reads.Asked,
-  account-of-reads.Learnt,
-  joined-reads.Asked,
-  joined-reads.Learnt,
-) (term-at t) term.Post term-Inv-loop term-μ-loop
-term-loop-holds t c = ?
+operand-token-at-requires : (t : ℕ) → operand-lts.Need-token-at-requires (operand-calls t) (operand-at t) operand.Post
+operand-token-at-requires t c κs = search needs
 
--- src/levels.rt:181:15
-term-operator-behind-requires : (t : ℕ) → term-lts.Need-operator-behind-requires (
-  operand-below t,
-  operand.Post,
-  operator-behind-reads.Asked,
-  operator-behind-reads.Learnt,
-  account-of-reads.Asked,
-  account-of-reads.Learnt,
-  joined-reads.Asked,
-  joined-reads.Learnt,
-) (term-at t) term.Post term-Inv-loop term-μ-loop
-term-operator-behind-requires t c κs = ?
+operand-enum-known-token : (t : ℕ) → operand-lts.Need-enum-known-token (operand-calls t) (operand-at t) operand.Post
+operand-enum-known-token t c = search needs
 
--- src/levels.rt:182:30
-term-enum-told : (t : ℕ) → term-lts.Need-enum-told (
-  operand-below t,
-  operand.Post,
-  operator-behind-reads.Asked,
-  operator-behind-reads.Learnt,
-  account-of-reads.Asked,
-  account-of-reads.Learnt,
-  joined-reads.Asked,
-  joined-reads.Learnt,
-) (term-at t) term.Post term-Inv-loop term-μ-loop
-term-enum-told t c = ?
+operand-number-requires : (t : ℕ) → operand-lts.Need-number-requires (operand-calls t) (operand-at t) operand.Post
+operand-number-requires t c κs = search needs
 
--- src/levels.rt:182:30
-term-returns : (t : ℕ) → term-lts.Need-returns (
-  operand-below t,
-  operand.Post,
-  operator-behind-reads.Asked,
-  operator-behind-reads.Learnt,
-  account-of-reads.Asked,
-  account-of-reads.Learnt,
-  joined-reads.Asked,
-  joined-reads.Learnt,
-) (term-at t) term.Post term-Inv-loop term-μ-loop
-term-returns t c = ?
+operand-enum-known-token-2 : (t : ℕ) → operand-lts.Need-enum-known-token-2 (operand-calls t) (operand-at t) operand.Post
+operand-enum-known-token-2 t c = search needs
 
--- src/levels.rt:184:17
-term-enum-known-operator : (t : ℕ) → term-lts.Need-enum-known-operator (
-  operand-below t,
-  operand.Post,
-  operator-behind-reads.Asked,
-  operator-behind-reads.Learnt,
-  account-of-reads.Asked,
-  account-of-reads.Learnt,
-  joined-reads.Asked,
-  joined-reads.Learnt,
-) (term-at t) term.Post term-Inv-loop term-μ-loop
-term-enum-known-operator t c = ?
+operand-enum-told : (t : ℕ) → operand-lts.Need-enum-told (operand-calls t) (operand-at t) operand.Post
+operand-enum-told t c = search needs
 
--- src/levels.rt:188:64
-term-account-of-requires : (t : ℕ) → term-lts.Need-account-of-requires (
-  operand-below t,
-  operand.Post,
-  operator-behind-reads.Asked,
-  operator-behind-reads.Learnt,
-  account-of-reads.Asked,
-  account-of-reads.Learnt,
-  joined-reads.Asked,
-  joined-reads.Learnt,
-) (term-at t) term.Post term-Inv-loop term-μ-loop
-term-account-of-requires t c κs = ?
+operand-sub-named : (t : ℕ) → operand-lts.Need-sub-named (operand-calls t) (operand-at t) operand.Post
+operand-sub-named t c =
+    let a = c .before .before .before .before .before .args in
+    let s = name-stands (namesOf (a .table .now)) (a .text .now) (a .account) (a .levels) (a .at) _ (c .before .before .token-at .ensures) (c .enum-told .given .1) in
+    omega (arith, s .forward, s .within)
 
--- src/levels.rt:188:21
-term-operand-requires-2 : (t : ℕ) → term-lts.Need-operand-requires-2 (
-  operand-below t,
-  operand.Post,
-  operator-behind-reads.Asked,
-  operator-behind-reads.Learnt,
-  account-of-reads.Asked,
-  account-of-reads.Learnt,
-  joined-reads.Asked,
-  joined-reads.Learnt,
-) (term-at t) term.Post term-Inv-loop term-μ-loop
-term-operand-requires-2 t c κs = ?
+operand-part-named-start : (t : ℕ) → operand-lts.Need-part-named-start (operand-calls t) (operand-at t) operand.Post
+operand-part-named-start t c =
+    let a = c .before .before .before .before .before .args in
+    let s = name-stands (namesOf (a .table .now)) (a .text .now) (a .account) (a .levels) (a .at) _ (c .before .before .token-at .ensures) (c .enum-told .given .1) in
+    omega (arith, s .forward, s .within)
 
--- src/levels.rt:189:17
-term-joined-requires : (t : ℕ) → term-lts.Need-joined-requires (
-  operand-below t,
-  operand.Post,
-  operator-behind-reads.Asked,
-  operator-behind-reads.Learnt,
-  account-of-reads.Asked,
-  account-of-reads.Learnt,
-  joined-reads.Asked,
-  joined-reads.Learnt,
-) (term-at t) term.Post term-Inv-loop term-μ-loop
-term-joined-requires t c κs = ?
+operand-part-named-end : (t : ℕ) → operand-lts.Need-part-named-end (operand-calls t) (operand-at t) operand.Post
+operand-part-named-end t c =
+    let a = c .before .before .before .before .before .args in
+    let s = name-stands (namesOf (a .table .now)) (a .text .now) (a .account) (a .levels) (a .at) _ (c .before .before .token-at .ensures) (c .enum-told .given .1) in
+    omega (arith, s .forward, s .within)
 
--- src/levels.rt:180:5
-term-loop-less : (t : ℕ) → term-lts.Need-loop-less (
-  operand-below t,
-  operand.Post,
-  operator-behind-reads.Asked,
-  operator-behind-reads.Learnt,
-  account-of-reads.Asked,
-  account-of-reads.Learnt,
-  joined-reads.Asked,
-  joined-reads.Learnt,
-) (term-at t) term.Post term-Inv-loop term-μ-loop
-term-loop-less t c = ?
+operand-named-requires : (t : ℕ) → operand-lts.Need-named-requires (operand-calls t) (operand-at t) operand.Post
+operand-named-requires t c κs = search needs
 
--- src/levels.rt:180:5
-term-loop-again : (t : ℕ) → term-lts.Need-loop-again (
-  operand-below t,
-  operand.Post,
-  operator-behind-reads.Asked,
-  operator-behind-reads.Learnt,
-  account-of-reads.Asked,
-  account-of-reads.Learnt,
-  joined-reads.Asked,
-  joined-reads.Learnt,
-) (term-at t) term.Post term-Inv-loop term-μ-loop
-term-loop-again t c = ?
+operand-enum-known-token-3 : (t : ℕ) → operand-lts.Need-enum-known-token-3 (operand-calls t) (operand-at t) operand.Post
+operand-enum-known-token-3 t c = search needs
+
+operand-stands-alone-requires : (t : ℕ) → operand-lts.Need-stands-alone-requires (operand-calls t) (operand-at t) operand.Post
+operand-stands-alone-requires t c κs = search needs
+
+operand-bad-requires : (t : ℕ) → operand-lts.Need-bad-requires (operand-calls t) (operand-at t) operand.Post
+operand-bad-requires t c κs = search needs
+
+operand-returns : (t : ℕ) → operand-lts.Need-returns (operand-calls t) (operand-at t) operand.Post
+operand-returns t c =
+    let a = c .before .before .before .before .before .before .before .before .before .args in
+    misplaced (namesOf (a .table .now)) (a .text .now) (a .account) (a .levels) (a .at) _ (c .before .before .before .before .before .before .token-at .ensures)
+    _ (c .before .before .before .before .token3 .given .1) _ (ap not (sym (c .before .before .stands-alone .ensures)) ∙ c .before .if1 .taken) (c .bad .ensures)
+
+operand-returns-2 : (t : ℕ) → operand-lts.Need-returns-2 (operand-calls t) (operand-at t) operand.Post
+operand-returns-2 t c =
+    let a = c .before .before .before .before .before .before .before .before .before .args in
+    operator-too-deep (namesOf (a .table .now)) (a .text .now) (a .account) (a .levels) (a .at) _ (c .before .before .before .before .before .before .token-at .ensures)
+    _ (c .before .before .before .before .token3 .given .1) (ap not (sym (c .before .before .stands-alone .ensures)) ∙ c .before .if1 .left) (c .if2 .taken)
+
+operand-sub-operand : (t : ℕ) → operand-lts.Need-sub-operand (operand-calls t) (operand-at t) operand.Post
+operand-sub-operand t c = search needs
+
+operand-operand-requires : (t : ℕ) → operand-lts.Need-operand-requires (operand-calls t) (operand-at t) operand.Post
+operand-operand-requires t c κs = (omega (arith, c .before .before .before .before .before .before .before .before .before .pre .0, c .if2 .left), tt)
+
+operand-covered-requires : (t : ℕ) → operand-lts.Need-covered-requires (operand-calls t) (operand-at t) operand.Post
+operand-covered-requires t c κs = search needs
+
+operand-enum-told-2 : (t : ℕ) → operand-lts.Need-enum-told-2 (operand-calls t) (operand-at t) operand.Post
+operand-enum-told-2 t c = search needs
+
+operand-returns-3 : (t : ℕ) → operand-lts.Need-returns-3 (operand-calls t) (operand-at t) operand.Post
+operand-returns-3 t c =
+    let a = c .before .before .before .before .before .before .args in
+    bracket-too-deep (namesOf (a .table .now)) (a .text .now) (a .account) (a .levels) (a .at) _ (c .before .before .before .token-at .ensures)
+    (c .before .enum-told2 .given .1) (c .if3 .taken)
+
+operand-sub-disjunction : (t : ℕ) → operand-lts.Need-sub-disjunction (operand-calls t) (operand-at t) operand.Post
+operand-sub-disjunction t c = search needs
+
+operand-disjunction-requires : (t : ℕ) → operand-lts.Need-disjunction-requires (operand-calls t) (operand-at t) operand.Post
+operand-disjunction-requires t c κs = (omega (arith, c .before .before .before .before .before .before .pre .0, c .if3 .left), tt)
+
+operand-closed-requires : (t : ℕ) → operand-lts.Need-closed-requires (operand-calls t) (operand-at t) operand.Post
+operand-closed-requires t c κs = search needs
+
+operand-enum-told-3 : (t : ℕ) → operand-lts.Need-enum-told-3 (operand-calls t) (operand-at t) operand.Post
+operand-enum-told-3 t c = search needs
+
+operand-bad-requires-2 : (t : ℕ) → operand-lts.Need-bad-requires-2 (operand-calls t) (operand-at t) operand.Post
+operand-bad-requires-2 t c κs = search needs
+
+operand-enum-told-4 : (t : ℕ) → operand-lts.Need-enum-told-4 (operand-calls t) (operand-at t) operand.Post
+operand-enum-told-4 t c = search needs
+
+operand-bad-requires-3 : (t : ℕ) → operand-lts.Need-bad-requires-3 (operand-calls t) (operand-at t) operand.Post
+operand-bad-requires-3 t c κs = search needs
+
+operand-enum-told-5 : (t : ℕ) → operand-lts.Need-enum-told-5 (operand-calls t) (operand-at t) operand.Post
+operand-enum-told-5 t c = search needs
+
+operand-bad-requires-4 : (t : ℕ) → operand-lts.Need-bad-requires-4 (operand-calls t) (operand-at t) operand.Post
+operand-bad-requires-4 t c κs = search needs
+
+operand-returns-4 : (t : ℕ) → operand-lts.Need-returns-4 (operand-calls t) (operand-at t) operand.Post
+operand-returns-4 t c =
+    let a = c .before .before .before .before .before .before .before .args in
+    starts-with (namesOf (a .table .now)) (a .text .now) (a .account) (a .levels) (a .at) _ (c .before .before .before .before .token-at .ensures)
+    (Number _) _ _ (c .before .before .token .given .1) refl (c .number .ensures (namesOf (a .table .now)))
+
+operand-returns-5 : (t : ℕ) → operand-lts.Need-returns-5 (operand-calls t) (operand-at t) operand.Post
+operand-returns-5 t c =
+    let a = c .before .before .before .before .before .before .args in
+    starts-with (namesOf (a .table .now)) (a .text .now) (a .account) (a .levels) (a .at) _ (c .before .before .before .token-at .ensures)
+    (BadNumber _ _) (wrong _ _) _ (c .before .token2 .given .1) refl refl
+
+operand-returns-6 : (t : ℕ) → operand-lts.Need-returns-6 (operand-calls t) (operand-at t) operand.Post
+operand-returns-6 t c =
+    let a = c .before .before .before .before .before .before .before .args in
+    starts-with (namesOf (a .table .now)) (a .text .now) (a .account) (a .levels) (a .at) _ (c .before .before .before .before .token-at .ensures)
+    Name _ _ (c .before .before .enum-told .given .1) refl (c .named .ensures)
+
+operand-returns-7 : (t : ℕ) → operand-lts.Need-returns-7 (operand-calls t) (operand-at t) operand.Post
+operand-returns-7 t c =
+    let a = c .before .before .before .before .before .before .before .before .before .before .before .args in
+    operator-covers (namesOf (a .table .now)) (a .text .now) (a .account) (a .levels) (a .at) _ (c .before .before .before .before .before .before .before .before .token-at .ensures)
+    _ (c .before .before .before .before .before .before .token3 .given .1) _ _ (ap not (sym (c .before .before .before .before .stands-alone .ensures)) ∙ c .before .before .before .if1 .left) (c .before .before .if2 .left) (c .before .operand .ensures) (c .covered .ensures)
+
+operand-returns-8 : (t : ℕ) → operand-lts.Need-returns-8 (operand-calls t) (operand-at t) operand.Post
+operand-returns-8 t c =
+    let a = c .before .before .before .before .before .before .before .before .args in
+    bracket-covers (namesOf (a .table .now)) (a .text .now) (a .account) (a .levels) (a .at) _ (c .before .before .before .before .before .token-at .ensures)
+    (c .before .before .before .enum-told2 .given .1) _ _ (c .before .before .if3 .left) (c .before .disjunction .ensures) (c .closed .ensures)
+
+operand-returns-9 : (t : ℕ) → operand-lts.Need-returns-9 (operand-calls t) (operand-at t) operand.Post
+operand-returns-9 t c =
+    let a = c .before .before .before .before .before .before .args in
+    starts-with (namesOf (a .table .now)) (a .text .now) (a .account) (a .levels) (a .at) _ (c .before .before .before .token-at .ensures)
+    End (wrong _ _) _ (c .before .enum-told3 .given .1) refl (c .bad2 .ensures)
+
+operand-returns-10 : (t : ℕ) → operand-lts.Need-returns-10 (operand-calls t) (operand-at t) operand.Post
+operand-returns-10 t c =
+    let a = c .before .before .before .before .before .before .args in
+    starts-with (namesOf (a .table .now)) (a .text .now) (a .account) (a .levels) (a .at) _ (c .before .before .before .token-at .ensures)
+    Close (wrong _ _) _ (c .before .enum-told4 .given .1) refl (c .bad3 .ensures)
+
+operand-returns-11 : (t : ℕ) → operand-lts.Need-returns-11 (operand-calls t) (operand-at t) operand.Post
+operand-returns-11 t c =
+    let a = c .before .before .before .before .before .before .args in
+    starts-with (namesOf (a .table .now)) (a .text .now) (a .account) (a .levels) (a .at) _ (c .before .before .before .token-at .ensures)
+    Strange (wrong _ _) _ (c .before .enum-told5 .given .1) refl (c .bad4 .ensures)
 
 pub +conjunction+disjunction+operand+relation+sum+term-spec : {M : Type 1} → statement M
 +conjunction+disjunction+operand+relation+sum+term-spec =
-    close μ-conjunction μ-disjunction μ-operand μ-relation μ-sum μ-term (λ t. conjunction-lts.spec (
-      relation-below t,
-      relation.Post,
-      operator-behind-reads.Asked,
-      operator-behind-reads.Learnt,
-      account-of-reads.Asked,
-      account-of-reads.Learnt,
-      joined-reads.Asked,
-      joined-reads.Learnt,
-    )
-    (conjunction-at t)
-    conjunction.Post
-    conjunction-Inv-loop
-    conjunction-μ-loop
+    close μ-conjunction μ-disjunction μ-operand μ-relation μ-sum μ-term
+    (λ t. conjunction-lts.spec (conjunction-calls t) (conjunction-at t) conjunction.Post conjunction-Inv-loop conjunction-μ-loop
     (conjunction-relation-requires t)
     (conjunction-loop-holds t)
     (conjunction-operator-behind-requires t)
@@ -1695,20 +604,7 @@ pub +conjunction+disjunction+operand+relation+sum+term-spec : {M : Type 1} → s
     (conjunction-joined-requires t)
     (conjunction-loop-less t)
     (conjunction-loop-again t))
-    (λ t. disjunction-lts.spec (
-      conjunction-below t,
-      conjunction.Post,
-      operator-behind-reads.Asked,
-      operator-behind-reads.Learnt,
-      account-of-reads.Asked,
-      account-of-reads.Learnt,
-      joined-reads.Asked,
-      joined-reads.Learnt,
-    )
-    (disjunction-at t)
-    disjunction.Post
-    disjunction-Inv-loop
-    disjunction-μ-loop
+    (λ t. disjunction-lts.spec (disjunction-calls t) (disjunction-at t) disjunction.Post disjunction-Inv-loop disjunction-μ-loop
     (disjunction-conjunction-requires t)
     (disjunction-loop-holds t)
     (disjunction-operator-behind-requires t)
@@ -1720,28 +616,7 @@ pub +conjunction+disjunction+operand+relation+sum+term-spec : {M : Type 1} → s
     (disjunction-joined-requires t)
     (disjunction-loop-less t)
     (disjunction-loop-again t))
-    (λ t. operand-lts.spec (
-      token-at-reads.Asked,
-      token-at-reads.Learnt,
-      number-reads.Asked,
-      number-reads.Learnt,
-      named-reads.Asked,
-      named-reads.Learnt,
-      stands-alone-reads.Asked,
-      stands-alone-reads.Learnt,
-      bad-reads.Asked,
-      bad-reads.Learnt,
-      operand-below t,
-      operand.Post,
-      covered-reads.Asked,
-      covered-reads.Learnt,
-      disjunction-below t,
-      disjunction.Post,
-      closed-reads.Asked,
-      closed-reads.Learnt,
-    )
-    (operand-at t)
-    operand.Post
+    (λ t. operand-lts.spec (operand-calls t) (operand-at t) operand.Post
     (operand-token-at-requires t)
     (operand-enum-known-token t)
     (operand-number-requires t)
@@ -1778,20 +653,7 @@ pub +conjunction+disjunction+operand+relation+sum+term-spec : {M : Type 1} → s
     (operand-returns-9 t)
     (operand-returns-10 t)
     (operand-returns-11 t))
-    (λ t. relation-lts.spec (
-      sum-below t,
-      sum.Post,
-      operator-behind-reads.Asked,
-      operator-behind-reads.Learnt,
-      account-of-reads.Asked,
-      account-of-reads.Learnt,
-      joined-reads.Asked,
-      joined-reads.Learnt,
-    )
-    (relation-at t)
-    relation.Post
-    relation-Inv-loop
-    relation-μ-loop
+    (λ t. relation-lts.spec (relation-calls t) (relation-at t) relation.Post relation-Inv-loop relation-μ-loop
     (relation-sum-requires t)
     (relation-loop-holds t)
     (relation-operator-behind-requires t)
@@ -1803,20 +665,7 @@ pub +conjunction+disjunction+operand+relation+sum+term-spec : {M : Type 1} → s
     (relation-joined-requires t)
     (relation-loop-less t)
     (relation-loop-again t))
-    (λ t. sum-lts.spec (
-      term-below t,
-      term.Post,
-      operator-behind-reads.Asked,
-      operator-behind-reads.Learnt,
-      account-of-reads.Asked,
-      account-of-reads.Learnt,
-      joined-reads.Asked,
-      joined-reads.Learnt,
-    )
-    (sum-at t)
-    sum.Post
-    sum-Inv-loop
-    sum-μ-loop
+    (λ t. sum-lts.spec (sum-calls t) (sum-at t) sum.Post sum-Inv-loop sum-μ-loop
     (sum-term-requires t)
     (sum-loop-holds t)
     (sum-operator-behind-requires t)
@@ -1828,20 +677,7 @@ pub +conjunction+disjunction+operand+relation+sum+term-spec : {M : Type 1} → s
     (sum-joined-requires t)
     (sum-loop-less t)
     (sum-loop-again t))
-    λ t. term-lts.spec (
-      operand-below t,
-      operand.Post,
-      operator-behind-reads.Asked,
-      operator-behind-reads.Learnt,
-      account-of-reads.Asked,
-      account-of-reads.Learnt,
-      joined-reads.Asked,
-      joined-reads.Learnt,
-    )
-    (term-at t)
-    term.Post
-    term-Inv-loop
-    term-μ-loop
+    λ t. term-lts.spec (term-calls t) (term-at t) term.Post term-Inv-loop term-μ-loop
     (term-operand-requires t)
     (term-loop-holds t)
     (term-operator-behind-requires t)

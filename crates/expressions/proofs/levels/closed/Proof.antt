@@ -1,50 +1,50 @@
+-- `closed` meets its contract: ")" behind the part decides, where there is a part.
+use mathlib.Core.Path.{_≡_, refl, ap, sym, _∙_}
+use mathlib.Core.List.{List}
+use Prim.Native.Nat.{ℕ}
+use Rattle.expressions.specs.Tokens.{tokenAt}
+use Rattle.expressions.specs.Steps.{closedPartBy, closedPart}
+use Rattle.expressions.specs.declared.parts.Part.{Part}
+use Rattle.expressions.specs.declared.tokens.Lexed.{Lexed}
 use borrow.Author.Needs.{needs}
 use Rattle.expressions.proofs.levels.closed.Statement.{statement}
 use Rattle.expressions.proofs.levels.closed.Tie as tie
-use Rattle.expressions.proofs.levels.closed.Reads as reads
-use Rattle.expressions.proofs.levels.closed.Lts as lts
-use Rattle.expressions.proofs.levels.closed_by.Reads as closed-by-reads
-use Rattle.expressions.proofs.tokens.token_at.Reads as token-at-reads
 
--- src/levels.rt:92:13
+by-token : (text : List ℕ) (next : ℕ) (p part : Part) (l : Lexed) (r : Part)
+    → closedPart text p ≡ closedPartBy p (tokenAt text next .token) (tokenAt text next .at) (tokenAt text next .next)
+    → part ≡ p → l ≡ tokenAt text next → r ≡ closedPartBy p (l .token) (l .at) (l .next) → r ≡ closedPart text part
+by-token text next p part l r d e t h =
+    h ∙ ap (λ (l : Lexed). closedPartBy p (l .token) (l .at) (l .next)) t ∙ sym d ∙ ap (closedPart text) (sym e)
+
 enum-known-part : tie.Need-enum-known-part
 enum-known-part c = search needs
 
--- src/levels.rt:93:30
 token-at-requires : tie.Need-token-at-requires
 token-at-requires c κs = search needs
 
--- src/levels.rt:93:14
 closed-by-requires : tie.Need-closed-by-requires
 closed-by-requires c κs = search needs
 
--- src/levels.rt:97:13
 enum-known-part-2 : tie.Need-enum-known-part-2
 enum-known-part-2 c = search needs
 
--- src/levels.rt:98:30
 token-at-requires-2 : tie.Need-token-at-requires-2
 token-at-requires-2 c κs = search needs
 
--- src/levels.rt:98:14
 closed-by-requires-2 : tie.Need-closed-by-requires-2
 closed-by-requires-2 c κs = search needs
 
--- src/levels.rt:99:23
 enum-known-part-3 : tie.Need-enum-known-part-3
 enum-known-part-3 c = search needs
 
--- src/levels.rt:85:1
 returns : tie.Need-returns
-returns c = ?
+returns c = by-token _ _ _ _ _ _ refl (c .before .before .before .part .given .1) (c .before .token-at .ensures) (c .closed-by .ensures)
 
--- src/levels.rt:85:1
 returns-2 : tie.Need-returns-2
-returns-2 c = ?
+returns-2 c = by-token _ _ _ _ _ _ refl (c .before .before .before .part2 .given .1) (c .before .token-at2 .ensures) (c .closed-by2 .ensures)
 
--- src/levels.rt:85:1
 returns-3 : tie.Need-returns-3
-returns-3 c = ?
+returns-3 c = ap (closedPart _) (sym (c .before .part3 .given .1))
 
 pub closed-spec : {M : Type 1} → statement M
 closed-spec =

@@ -1,50 +1,50 @@
+-- `ended` meets its contract: the end behind the part decides, where there is a part.
+use mathlib.Core.Path.{_≡_, refl, ap, sym, _∙_}
+use mathlib.Core.List.{List}
+use Prim.Native.Nat.{ℕ}
+use Rattle.expressions.specs.Tokens.{tokenAt}
+use Rattle.expressions.specs.Steps.{endedPartBy, endedPart}
+use Rattle.expressions.specs.declared.parts.Part.{Part}
+use Rattle.expressions.specs.declared.tokens.Lexed.{Lexed}
 use borrow.Author.Needs.{needs}
 use Rattle.expressions.proofs.levels.ended.Statement.{statement}
 use Rattle.expressions.proofs.levels.ended.Tie as tie
-use Rattle.expressions.proofs.levels.ended.Reads as reads
-use Rattle.expressions.proofs.levels.ended.Lts as lts
-use Rattle.expressions.proofs.levels.ended_by.Reads as ended-by-reads
-use Rattle.expressions.proofs.tokens.token_at.Reads as token-at-reads
 
--- src/levels.rt:122:13
+by-token : (text : List ℕ) (next : ℕ) (p part : Part) (l : Lexed) (r : Part)
+    → endedPart text p ≡ endedPartBy p (tokenAt text next .token) (tokenAt text next .at)
+    → part ≡ p → l ≡ tokenAt text next → r ≡ endedPartBy p (l .token) (l .at) → r ≡ endedPart text part
+by-token text next p part l r d e t h =
+    h ∙ ap (λ (l : Lexed). endedPartBy p (l .token) (l .at)) t ∙ sym d ∙ ap (endedPart text) (sym e)
+
 enum-known-part : tie.Need-enum-known-part
 enum-known-part c = search needs
 
--- src/levels.rt:123:29
 token-at-requires : tie.Need-token-at-requires
 token-at-requires c κs = search needs
 
--- src/levels.rt:123:14
 ended-by-requires : tie.Need-ended-by-requires
 ended-by-requires c κs = search needs
 
--- src/levels.rt:127:13
 enum-known-part-2 : tie.Need-enum-known-part-2
 enum-known-part-2 c = search needs
 
--- src/levels.rt:128:29
 token-at-requires-2 : tie.Need-token-at-requires-2
 token-at-requires-2 c κs = search needs
 
--- src/levels.rt:128:14
 ended-by-requires-2 : tie.Need-ended-by-requires-2
 ended-by-requires-2 c κs = search needs
 
--- src/levels.rt:129:23
 enum-known-part-3 : tie.Need-enum-known-part-3
 enum-known-part-3 c = search needs
 
--- src/levels.rt:115:1
 returns : tie.Need-returns
-returns c = ?
+returns c = by-token _ _ _ _ _ _ refl (c .before .before .before .part .given .1) (c .before .token-at .ensures) (c .ended-by .ensures)
 
--- src/levels.rt:115:1
 returns-2 : tie.Need-returns-2
-returns-2 c = ?
+returns-2 c = by-token _ _ _ _ _ _ refl (c .before .before .before .part2 .given .1) (c .before .token-at2 .ensures) (c .ended-by2 .ensures)
 
--- src/levels.rt:115:1
 returns-3 : tie.Need-returns-3
-returns-3 c = ?
+returns-3 c = ap (endedPart _) (sym (c .before .part3 .given .1))
 
 pub ended-spec : {M : Type 1} → statement M
 ended-spec =

@@ -1,48 +1,48 @@
+-- `operator_behind` meets its contract: the token behind the part decides, where there is a part.
+use mathlib.Core.Path.{_≡_, refl, ap, sym, _∙_}
+use mathlib.Core.List.{List}
+use Prim.Native.Nat.{ℕ}
+use Rattle.expressions.specs.Tokens.{tokenAt}
+use Rattle.expressions.specs.Trees.{binding}
+use Rattle.expressions.specs.Steps.{behindPart}
+use Rattle.expressions.specs.declared.levels.Behind.{Behind}
+use Rattle.expressions.specs.declared.parts.Part.{Part}
+use Rattle.expressions.specs.declared.tokens.Lexed.{Lexed}
 use borrow.Author.Needs.{needs}
 use Rattle.expressions.proofs.levels.operator_behind.Statement.{statement}
 use Rattle.expressions.proofs.levels.operator_behind.Tie as tie
-use Rattle.expressions.proofs.levels.operator_behind.Reads as reads
-use Rattle.expressions.proofs.levels.operator_behind.Lts as lts
-use Rattle.expressions.proofs.levels.binding.Reads as binding-reads
-use Rattle.expressions.proofs.tokens.token_at.Reads as token-at-reads
 
--- src/levels.rt:52:13
+by-token : (text : List ℕ) (level next : ℕ) (p part : Part) (l : Lexed) (r : Behind) → behindPart text level p ≡ binding level (tokenAt text next)
+    → part ≡ p → l ≡ tokenAt text next → r ≡ binding level l → r ≡ behindPart text level part
+by-token text level next p part l r d e t h = h ∙ ap (binding level) t ∙ sym d ∙ ap (behindPart text level) (sym e)
+
 enum-known-part : tie.Need-enum-known-part
 enum-known-part c = search needs
 
--- src/levels.rt:53:29
 token-at-requires : tie.Need-token-at-requires
 token-at-requires c κs = search needs
 
--- src/levels.rt:53:14
 binding-requires : tie.Need-binding-requires
 binding-requires c κs = search needs
 
--- src/levels.rt:57:13
 enum-known-part-2 : tie.Need-enum-known-part-2
 enum-known-part-2 c = search needs
 
--- src/levels.rt:58:29
 token-at-requires-2 : tie.Need-token-at-requires-2
 token-at-requires-2 c κs = search needs
 
--- src/levels.rt:58:14
 binding-requires-2 : tie.Need-binding-requires-2
 binding-requires-2 c κs = search needs
 
--- src/levels.rt:59:47
 enum-told : tie.Need-enum-told
 enum-told c = search needs
 
--- src/levels.rt:45:1
 returns : tie.Need-returns
-returns c = ?
+returns c = by-token _ _ _ _ _ _ _ refl (c .before .before .before .part .given .1) (c .before .token-at .ensures) (c .binding .ensures)
 
--- src/levels.rt:45:1
 returns-2 : tie.Need-returns-2
-returns-2 c = ?
+returns-2 c = by-token _ _ _ _ _ _ _ refl (c .before .before .before .part2 .given .1) (c .before .token-at2 .ensures) (c .binding2 .ensures)
 
--- src/levels.rt:45:1
 returns-3 : tie.Need-returns-3
 returns-3 c = search needs
 

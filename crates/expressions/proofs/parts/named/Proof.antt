@@ -3,7 +3,7 @@ use mathlib.Core.List.{List}
 use mathlib.Core.Path.{_≡_, ap, sym, _∙_}
 use Prim.Native.Nat.{ℕ}
 use Rattle.variables.specs.Names.{Meaning}
-use Rattle.expressions.specs.Trees.{tree, name}
+use Rattle.expressions.specs.Trees.{tree, variable}
 use Rattle.expressions.specs.declared.parts.Account.{Account}
 use Rattle.expressions.specs.declared.parts.Account.the-variants.{Open, Shut}
 use Rattle.expressions.specs.declared.parts.Part.{Part}
@@ -14,13 +14,13 @@ use Rattle.expressions.proofs.parts.named.Statement.{statement}
 use Rattle.expressions.proofs.parts.named.Tie as tie
 
 module _ (names : List ℕ → Meaning) (word : List ℕ) (place next : ℕ) where
-  open-part : (left : ℕ) (account : Account) (r : Part) → account ≡ Open left → r ≡ partOf names (Open left) (tree (name word place) next)
-      → r ≡ partOf names account (tree (name word place) next)
-  open-part left account r e h = h ∙ ap (λ a. partOf names a (tree (name word place) next)) (sym e)
+  open-part : (left : ℕ) (account : Account) (r : Part) → account ≡ Open left → r ≡ partOf names (Open left) (tree (variable word place) next)
+      → r ≡ partOf names account (tree (variable word place) next)
+  open-part left account r e h = h ∙ ap (λ a. partOf names a (tree (variable word place) next)) (sym e)
 
   shut-part : (n first : ℕ) (account : Account) → account ≡ Shut n first
-      → Refused n first next ≡ partOf names account (tree (name word place) next)
-  shut-part n first account e = ap (λ a. partOf names a (tree (name word place) next)) (sym e)
+      → Refused n first next ≡ partOf names account (tree (variable word place) next)
+  shut-part n first account e = ap (λ a. partOf names a (tree (variable word place) next)) (sym e)
 
 enum-known-account : tie.Need-enum-known-account
 enum-known-account c = search needs

@@ -3,7 +3,7 @@ use mathlib.Core.List.{List}
 use mathlib.Core.Path.{_≡_, ap, sym}
 use Prim.Native.Nat.{ℕ}
 use Rattle.variables.specs.Names.{Meaning}
-use Rattle.expressions.specs.Trees.{tree, number}
+use Rattle.expressions.specs.Trees.{tree, constant}
 use Rattle.expressions.specs.declared.parts.Account.{Account}
 use Rattle.expressions.specs.declared.parts.Account.the-variants.{Open, Shut}
 use Rattle.expressions.specs.declared.parts.Part.the-variants.{Value, Refused}
@@ -13,12 +13,12 @@ use Rattle.expressions.proofs.parts.number.Statement.{statement}
 use Rattle.expressions.proofs.parts.number.Tie as tie
 
 open-part : (value next left : ℕ) (account : Account) → account ≡ Open left
-    → (names : List ℕ → Meaning) → Value value left next ≡ partOf names account (tree (number value) next)
-open-part value next left account e names = ap (λ a. partOf names a (tree (number value) next)) (sym e)
+    → (names : List ℕ → Meaning) → Value value left next ≡ partOf names account (tree (constant value) next)
+open-part value next left account e names = ap (λ a. partOf names a (tree (constant value) next)) (sym e)
 
 shut-part : (value next n place : ℕ) (account : Account) → account ≡ Shut n place
-    → (names : List ℕ → Meaning) → Refused n place next ≡ partOf names account (tree (number value) next)
-shut-part value next n place account e names = ap (λ a. partOf names a (tree (number value) next)) (sym e)
+    → (names : List ℕ → Meaning) → Refused n place next ≡ partOf names account (tree (constant value) next)
+shut-part value next n place account e names = ap (λ a. partOf names a (tree (constant value) next)) (sym e)
 
 enum-known-account : tie.Need-enum-known-account
 enum-known-account c = search needs
