@@ -1,0 +1,42 @@
+-- `evaluate_over` meets its contract: the loosest level, then the end, then the answer.
+use mathlib.Core.List.{List}
+use mathlib.Core.Path.{_≡_, ap, _∙_}
+use Prim.Native.Nat.{ℕ}
+use Rattle.paper.specs.Traces.{run}
+use Rattle.variables.specs.Names.{namesOf}
+use Rattle.expressions.specs.Operators.{loosest}
+use Rattle.expressions.specs.Trees.{levelAt, operandAt, ended, whole}
+use Rattle.expressions.specs.Answers.{readingOf, valueIn, evaluatedBy}
+use Rattle.expressions.specs.Steps.{partOf, endedPart, answerOf}
+use Rattle.expressions.specs.declared.Evaluated.{Evaluated}
+use Rattle.expressions.specs.declared.parts.Account.the-variants.{Open}
+use Rattle.expressions.specs.declared.parts.Part.{Part}
+use Rattle.expressions.proofs.Joins.{part-ended, part-answer}
+use borrow.Author.Needs.{needs}
+use Rattle.expressions.proofs.evaluate_over.Statement.{statement}
+use Rattle.expressions.proofs.evaluate_over.Tie as tie
+
+evaluated-whole : (text table : List ℕ) (left : ℕ) (part last : Part) (r : Evaluated)
+    → part ≡ partOf (namesOf table) (Open left) (levelAt text loosest (operandAt text 16) 0) → last ≡ endedPart text part → r ≡ answerOf last
+    → r ≡ evaluatedBy (run (readingOf text table) left) (valueIn text table)
+unfolding whole
+evaluated-whole text table left part last r p e h =
+    let parsed = levelAt text loosest (operandAt text 16) 0 in
+    h ∙ ap answerOf (e ∙ ap (endedPart text) p ∙ part-ended (namesOf table) text (Open left) parsed)
+    ∙ part-answer (namesOf table) left (ended text parsed)
+
+disjunction-requires : tie.Need-disjunction-requires
+disjunction-requires c κs = search needs
+
+ended-requires : tie.Need-ended-requires
+ended-requires c κs = search needs
+
+answer-of-requires : tie.Need-answer-of-requires
+answer-of-requires c κs = search needs
+
+returns : tie.Need-returns
+returns c = evaluated-whole (c .before .before .before .before .before .args .text .now) (c .before .before .before .before .before .args .table .now) (c .before .before .before .before .before .args .left) _ _ _ (c .before .before .disjunction .ensures) (c .before .ended .ensures) (c .answer-of .ensures)
+
+pub evaluate-over-spec : {M : Type 1} → statement M
+evaluate-over-spec =
+    tie.close (tie.spec disjunction-requires ended-requires answer-of-requires returns)
