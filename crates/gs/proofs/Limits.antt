@@ -14,6 +14,7 @@ use Rattle.paper.specs.Refusals.{too-big, longest}
 use Rattle.paper.specs.Traces.{Reference, Trace, ended, refused, gives, asks, spends, enters, bytes, Run, finished, stopped, behind, spending, run, fit, Ending, done, failed, beyond, ending, reached, lookUps, allowed}
 use Rattle.paper.specs.declared.faults.Fault.{Fault}
 use Rattle.paper.proofs.Choice.{either}
+use Rattle.paper.proofs.Placed.{Placed, ended-at, refused-at, gives-on, asks-on, spends-at, enters-at, placeOf, run-placed}
 use Rattle.paper.proofs.DemandThree.{stopped-number, finished-within}
 use Rattle.reader.specs.Reading.{reading}
 use Rattle.reader.specs.declared.Reading.{Reading}
@@ -34,40 +35,11 @@ use Rattle.variables.specs.Names.{Meaning, unknown, string-of, integer-of, macr
 use Rattle.variables.specs.declared.Checked.{Checked}
 use Rattle.variables.specs.declared.Checked.the-variants.{Good, Refused as Unsound}
 use Rattle.variables.proofs.Bounds.{Bounded, checked-bounded}
-use Rattle.gs.proofs.Pieces.{Own, meaning-own}
+use Rattle.variables.proofs.Own.{Own, meaning-own}
 use Rattle.gs.proofs.Places.{Stands, quoteOf, symbol-stands, opened-stands}
 
 clash : {A : Type 0} → _≡_ {A = ℕ} 0 1 → A
 clash z = absurd (omega arith)
-
--- every place of this level lies in a text of so many bytes
-pub data Placed (size : ℕ) : Trace → Type 0 where
-  ended-at : {end : ℕ} → end ≤ size → Placed size (ended end)
-  refused-at : {fault : Fault} {place : ℕ} → place ≤ size → Placed size (refused fault place)
-  gives-on : {byte : ℕ} {rest : Trace} → Placed size rest → Placed size (gives byte rest)
-  asks-on : {name : List ℕ} {rest : Trace} → Placed size rest → Placed size (asks name rest)
-  spends-at : {place : ℕ} {rest : Trace} → place ≤ size → Placed size rest → Placed size (spends place rest)
-  enters-at : {reference : Reference} {value rest : Trace} → reference .place ≤ size → Placed size rest → Placed size (enters reference value rest)
-
-abbrev placeOf : Run → ℕ
-placeOf (finished end left) = end
-placeOf (stopped number place) = place
-
-behind-placed : (r : Run) (size place : ℕ) (rest : ℕ → Run) → place ≤ size → ((left : ℕ) → placeOf (rest left) ≤ size) → placeOf (behind r place rest) ≤ size
-behind-placed (finished end left) size place rest p f = f left
-behind-placed (stopped number inner) size place rest p f = p
-
-spending-placed : (left size place : ℕ) (rest : ℕ → Run) → place ≤ size → ((left : ℕ) → placeOf (rest left) ≤ size) → placeOf (spending place left rest) ≤ size
-spending-placed zero size place rest p f = p
-spending-placed (suc left) size place rest p f = f left
-
-run-placed : {size : ℕ} {t : Trace} → Placed size t → (left : ℕ) → placeOf (run t left) ≤ size
-run-placed (ended-at p) left = p
-run-placed (refused-at p) left = p
-run-placed (gives-on t) left = run-placed t left
-run-placed (asks-on t) left = run-placed t left
-run-placed {size} (spends-at {place = q} {rest = r} p t) left = spending-placed left size q (run r) p (run-placed t)
-run-placed {size} (enters-at {reference = q} {value = v} {rest = r} p t) left = behind-placed (run v left) size (q .place) (run r) p (run-placed t)
 
 -- where the reading succeeds it gives no more bytes than a number of its own and 255 for each look-up
 pub record Limited (n size : ℕ) (t : Trace) : Type 0 where
@@ -217,7 +189,7 @@ module _ (table : List ℕ) (bs : (k : ℕ) → getD table k 0 ≤ 255) where
   meaning-fits (means e) o = entry-fits e (o .own e refl)
 
   pub names-fit : (name : List ℕ) → Fitting (namesOf table name)
-  names-fit name = meaning-fits (meaningOf table name) (meaning-own most table name (length table) 0)
+  names-fit name = meaning-fits (meaningOf table name) (meaning-own table name)
 
 -- an answer that the C face can pack
 pub record Packable (a : Answer) : Type 0 where

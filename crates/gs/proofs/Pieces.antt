@@ -19,6 +19,7 @@ use Rattle.variables.specs.Records as Records
 use Rattle.variables.specs.Records.{Entry, nothing, means, nextPlace, valueLength, valueAt, entryAt, entries, meaning, sameName}
 use Rattle.variables.specs.Tables.{most, meaningOf, variableAt}
 use Rattle.variables.specs.Names.{string-of, integer-of, macro-of, pattern, meant, inReading, namesOf}
+use Rattle.variables.proofs.Own.{Own, meaning-own, own-value}
 use Rattle.gs.specs.Readings.{Expand, givesAll, decimalOf, named, content}
 use Rattle.gs.specs.Steps.{Laid, Passes, partOf, kinded, variableAs, referredAs, referredIn, pieceOf, lengthIn}
 use Rattle.gs.specs.declared.expansion.Referred.the-variants.{TooBig, Text, Integer, Macro}
@@ -58,38 +59,6 @@ laid-more out xs ys middle after at first second =
           ∙ sym (sets-append xs ys out at);
     }
 
--- a record that a name means is the table's own at its place
-pub record Own (table : List ℕ) (m : Records.Meaning) : Type 0 where
-  pub own : (e : Entry) → m ≡ means e → e ≡ entryAt table (e .place)
-
-own-nothing : (table : List ℕ) → Own table nothing
-own-nothing table = record { own = λ e p. absurd (clash e p) }
-  where
-    clash : (e : Entry) → nothing ≡ means e → ⊥
-    clash e p = let z : _≡_ {A = ℕ} 0 1 = cc in omega arith
-
-own-here : (table : List ℕ) (place : ℕ) → Own table (means (entryAt table place))
-unfolding entryAt
-own-here table place = record { own = λ e p. here e p }
-  where
-    here : (e : Entry) → means (entryAt table place) ≡ means e → e ≡ entryAt table (e .place)
-    here e p =
-        let q : entryAt table place ≡ e = cc in
-        sym q ∙ ap (λ (f : Entry). entryAt table (f .place)) q
-
-pub meaning-own : (left : ℕ) (table name : List ℕ) (stop place : ℕ) → Own table (meaning (entries left table stop place) name)
-unfolding meaning entries
-meaning-own zero table name stop place = own-nothing table
-meaning-own (suc left) table name stop place =
-    either (λ es. Own table (meaning es name)) (ltb place stop)
-    (λ _. either (Own table) (sameName (entryAt table place .name) name) (λ _. own-here table place)
-    (λ _. meaning-own left table name stop (nextPlace table place)))
-    (λ _. own-nothing table)
-
-value-part : (table : List ℕ) (e : Entry) → e ≡ entryAt table (e .place) → e .value ≡ partOf table (variableAt table e)
-unfolding entryAt valueAt
-value-part table e h = ap (λ (f : Entry). f .value) h
-
 module _ (table name : List ℕ) (expand : Expand) (place : ℕ) (rest : Trace) where
   named-piece : (m : Records.Meaning) → Own table m
       → asks name (named expand (inReading m) name place rest) ≡ pieceOf table expand (variableAs table m) name place rest
@@ -98,7 +67,7 @@ module _ (table name : List ℕ) (expand : Expand) (place : ℕ) (rest : Trace) 
   named-piece (means e) o = kinds (eqb (e .kind) 0) (eqb (e .kind) 1)
     where
       part : e .value ≡ partOf table (variableAt table e)
-      part = value-part table e (o .own e refl)
+      part = own-value table e (o .own e refl)
 
       kinds : (zeroth first : Bool)
           → asks name (named expand (cond zeroth (string-of (e .value)) (cond first (integer-of (pattern (e .value))) (macro-of (e .value)))) name place rest)
@@ -123,7 +92,7 @@ module _ (table name : List ℕ) (expand : Expand) (place : ℕ) (rest : Trace) 
   pub content-piece : content (namesOf table) expand (reading name true 4294967295) name place rest
       ≡ pieceOf table expand (referredIn table name) name place rest
   unfolding referredIn
-  content-piece = read-piece (reading name true 4294967295) (meaningOf table name) (meaning-own most table name (length table) 0) refl
+  content-piece = read-piece (reading name true 4294967295) (meaningOf table name) (meaning-own table name) refl
 
 -- a value's length is one byte of its record
 module _ (table : List ℕ) (bytes : (k : ℕ) → getD table k 0 ≤ 255) where

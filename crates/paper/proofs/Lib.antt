@@ -1,4 +1,5 @@
 -- Laws that every chapter's proofs share.
 pub mod Choice
 pub mod Spaces
+pub mod Placed
 pub mod DemandThree

@@ -27,7 +27,7 @@ use Rattle.gs.specs.Translations as Translations
 use Rattle.gs.specs.Translations.{readingOf, leftBy, translated, outAfter}
 use Rattle.promises.specs.Allowed.{Converts, Reads, Translates}
 use Rattle.promises.specs.Examples.{Row, writes, lacks, reads, refuses, translates, Holds, All, examples}
-use Rattle.promises.specs.Texts.{bytes}
+use Rattle.paper.specs.Texts.{bytes}
 use Rattle.promises.proofs.Outcomes.{Outcome, unknown, short, whole as entire, one-form, not-both, outcome}
 
 module _ (call value room : ℕ) (form : Form) (known : described call ≡ Known form) where

@@ -13,7 +13,7 @@ use Rattle.reader.specs.declared.Reading.{Reading}
 use Rattle.gs.specs.Translations as Translations
 use Rattle.gs.specs.declared.Translated.{Translated}
 use Rattle.promises.specs.Allowed.{Converts, Reads, Translates}
-use Rattle.promises.specs.Texts.{bytes}
+use Rattle.paper.specs.Texts.{bytes}
 
 pub data Row : Type 0 where
   -- a call, a value and a room: the string, its zero byte's offset, the need, the room left

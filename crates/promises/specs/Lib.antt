@@ -1,6 +1,5 @@
 -- What the library promises, over what the contracts allow.
 pub mod Allowed
-pub mod Texts
 pub mod Examples
 pub mod Conversions
 pub mod Readings
