@@ -6,3 +6,4 @@ pub mod Onward
 pub mod Joins
 pub mod Chains
 pub mod Operands
+pub mod Limits

@@ -39,49 +39,49 @@ pub record Stands (text : List ℕ) (at : ℕ) (l : Lexed) : Type 0 where
   pub forward : l .at < l .next
   pub within : l .next ≤ length text
 
--- a number that is read takes a byte at least, and ends inside the text
-abbrev Reads : ℕ → Reading → Type 0
+-- a number that is read takes a byte at least, and ends inside the text; one that is refused is refused there
+abbrev pub Reads : ℕ → Reading → Type 0
 Reads size (Value n) = (0 < n .end .0) × (n .end .0 ≤ size)
-Reads size (Refused number place) = Unit {0}
+Reads size (Refused number place) = place .0 ≤ size
 
 module _ (text : List ℕ) (whole : Bool) (limit start : ℕ) where
   abbrev R : Reading → Type 0
   R = Reads (length text)
 
-  judged-reads : (first end value : ℕ) → first ≤ end → end ≤ length text → R (judged text whole limit start first end value)
+  judged-reads : (first end value : ℕ) → start ≤ length text → first ≤ end → end ≤ length text → R (judged text whole limit start first end value)
   unfolding judged
-  judged-reads first end value f e =
-      either R (eqb end first) (λ _. tt)
-      (λ n. either R (ltb 4294967295 value) (λ _. tt)
-      (λ _. either R (goesOn text whole end) (λ _. tt)
-      (λ _. either R (ltb limit value) (λ _. tt)
+  judged-reads first end value s f e =
+      either R (eqb end first) (λ _. omega arith)
+      (λ n. either R (ltb 4294967295 value) (λ _. s)
+      (λ _. either R (goesOn text whole end) (λ _. e)
+      (λ _. either R (ltb limit value) (λ _. s)
       (λ _.
       let some = eqb-false end first n in
       omega arith))))
 
-  based-reads : (first base : ℕ) → first ≤ length text → R (based text whole limit start first base)
-  based-reads first base f = judged-reads first _ _ (omega arith) (run-within base first text f)
+  based-reads : (first base : ℕ) → start ≤ length text → first ≤ length text → R (based text whole limit start first base)
+  based-reads first base s f = judged-reads first _ _ s (omega arith) (run-within base first text f)
 
-  behind-reads : (first base : ℕ) → first ≤ length text → R (behind text whole limit start first base)
+  behind-reads : (first base : ℕ) → start ≤ length text → first ≤ length text → R (behind text whole limit start first base)
   unfolding behind
-  behind-reads first base f = either R (ltb base 2 || ltb 36 base) (λ _. tt) (λ _. based-reads first base f)
+  behind-reads first base s f = either R (ltb base 2 || ltb 36 base) (λ _. s) (λ _. based-reads first base s f)
 
   numbered-reads : start ≤ length text → R (numbered text whole limit start)
   unfolding numbered
   numbered-reads s =
       let mark = start + length (run 10 (drop start text)) in
       either R (eqb (getD text start 0) 38)
-      (λ hex. based-reads (start + 1) 16 (omega (arith, inside text start (omega (arith, eqb-true (getD text start 0) 38 hex)))))
+      (λ hex. based-reads (start + 1) 16 s (omega (arith, inside text start (omega (arith, eqb-true (getD text start 0) 38 hex)))))
       (λ _. either R (marked text start mark)
       (λ m.
       let u = eqb-true (getD text mark 0) 95 (and-eq-true-iff (ltb start mark) _ .0 m .1) in
-      behind-reads (mark + 1) _ (omega (arith, inside text mark (omega arith))))
-      (λ _. based-reads start 10 s))
+      behind-reads (mark + 1) _ s (omega (arith, inside text mark (omega arith))))
+      (λ _. based-reads start 10 s s))
 
-reading-reads : (text : List ℕ) (whole : Bool) (limit : ℕ) → Reads (length text) (reading text whole limit)
+pub reading-reads : (text : List ℕ) (whole : Bool) (limit : ℕ) → Reads (length text) (reading text whole limit)
 unfolding reading
 reading-reads text whole limit =
-    either (Reads (length text)) (ltb longest (length text)) (λ _. tt) (λ _. numbered-reads text whole limit _ (spaces-within text))
+    either (Reads (length text)) (ltb longest (length text)) (λ _. omega arith) (λ _. numbered-reads text whole limit _ (spaces-within text))
 
 -- the token that starts at a place
 module _ (text : List ℕ) (at : ℕ) where
