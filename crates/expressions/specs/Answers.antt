@@ -1,11 +1,11 @@
 -- What an evaluation answers.
 use mathlib.Core.Bool.{cond}
-use mathlib.Core.List.{List}
+use mathlib.Core.List.{List, [], _∷_}
 use Prim.Native.Nat.{ℕ}
 use lib.Dec.{ltb}
-use lib.IntN.{ℤ, pos}
+use lib.IntN.{ℤ}
 use lib.ListN.{length}
-use Rattle.paper.specs.Refusals.{over-length, longest}
+use Rattle.paper.specs.Refusals.{no-digit, bad-base, too-big, unknown-name, too-deep, allowance-spent, bad-table, bad-expression, zero-divisor, not-an-integer, over-length, longest}
 use Rattle.paper.specs.Traces.{Trace, Run, finished, stopped, run, allowed}
 use Rattle.variables.specs.Names.{namesOf}
 use Rattle.variables.specs.Tables.{checked}
@@ -41,7 +41,8 @@ evaluated text table allowance =
     let reading = evaluatedOver (checked table) (readingOf text table) allowance (valueIn text table) in
     cond (ltb longest (length text)) (refusedAt over-length 0) reading
 
--- the paper's numbers of an answer: the refusal's number, 0 where accepted; the place, a bad table's in the table; the value
+-- the paper's numbers of an answer: the refusal's number, 0 where accepted; the place, a bad table's in the table; the value, 0 where
+-- refused, as its pattern and as the signed number that it stands for
 abbrev pub numberOf : Evaluated → ℕ
 numberOf (Value pattern end) = 0
 numberOf (Refused number at) = number
@@ -52,7 +53,15 @@ placeOf (Value pattern end) = end .0
 placeOf (Refused number at) = at .0
 placeOf (BadTable number at) = at .0
 
+abbrev pub patternOf : Evaluated → ℕ
+patternOf (Value pattern end) = pattern
+patternOf (Refused number at) = 0
+patternOf (BadTable number at) = 0
+
 abbrev pub valueOf : Evaluated → ℤ
-valueOf (Value pattern end) = signed pattern
-valueOf (Refused number at) = pos 0
-valueOf (BadTable number at) = pos 0
+valueOf r = signed (patternOf r)
+
+-- the numbers that an answer can have, in the order in which the refusals are looked for
+abbrev pub evaluateNumbers : List ℕ
+evaluateNumbers =
+    0 ∷ over-length ∷ bad-table ∷ bad-expression ∷ too-deep ∷ no-digit ∷ bad-base ∷ too-big ∷ unknown-name ∷ not-an-integer ∷ allowance-spent ∷ zero-divisor ∷ []

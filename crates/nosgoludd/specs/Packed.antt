@@ -11,6 +11,9 @@ use Rattle.variables.specs.declared.Found.{Found}
 use Rattle.gs.specs.Translations as Translations
 use Rattle.gs.specs.declared.Translated.{Translated}
 use Rattle.gs.specs.declared.Translated.the-variants.{Written, Refused, BadTable}
+use Rattle.expressions.specs.Answers as Answers
+use Rattle.expressions.specs.declared.Evaluated.{Evaluated}
+use Rattle.expressions.specs.declared.Evaluated.the-variants.{Value, Refused as RefusedAt, BadTable as BadTableAt}
 
 abbrev pub packed : ℕ → ℕ → ℕ → ℕ → ℕ
 packed number counted place high = number + 256 * counted + 65536 * place + 4294967296 * high
@@ -40,3 +43,12 @@ abbrev pub packedTranslation : Translated → ℕ
 packedTranslation r =
     let a = Translations.inPaper r in
     packed (a .number) (countedIn r) (a .place) (a .need)
+
+-- what the place of an evaluation is counted in
+abbrev pub evaluationCounted : Evaluated → ℕ
+evaluationCounted (Value pattern end) = 0
+evaluationCounted (RefusedAt number at) = 0
+evaluationCounted (BadTableAt number at) = 1
+
+abbrev pub packedEvaluation : Evaluated → ℕ
+packedEvaluation r = packed (Answers.numberOf r) (evaluationCounted r) (Answers.placeOf r) (Answers.patternOf r)

@@ -8,7 +8,9 @@ ghost use Rattle.numbers.specs.Calls.{answerOf, bufferOf};
 ghost use Rattle.reader.specs.Reading.{reading};
 ghost use Rattle.variables.specs.Tables.{checked, lookedUp};
 ghost use Rattle.gs.specs.Translations.{translated, outAfter};
-ghost use Rattle.nosgoludd.specs.Packed.{packed, packedConversion, packedReading, packedCheck, packedFound, packedTranslation};
+ghost use Rattle.expressions.specs.Answers.{evaluated};
+ghost use Rattle.nosgoludd.specs.Packed.{packed, packedConversion, packedReading, packedCheck, packedFound, packedTranslation, packedEvaluation};
+use expressions::Evaluated;
 use gs::Translated;
 use gs::flags::Flags;
 use numbers::Converted;
@@ -118,5 +120,25 @@ pub extern "C" fn nos_translate(
             at,
             free: _,
         } => pack(number, IN_THE_TABLE, at.0, 0),
+    }
+}
+
+// A 32-bit pattern as the high half of an answer.
+fn high_half(pattern: u32) -> usize
+    ensures { λ r. ⌜ (r ≡ pattern) × (r ≤ 4294967295) ⌝ }
+{
+    pattern as usize
+}
+
+// The value is a signed number's 32-bit pattern.
+#[no_mangle]
+pub extern "C" fn nos_evaluate(text: &[u8], table: &[u8], allowance: u32) -> u64
+    ensures { λ r. ⌜ r ≡ packedEvaluation (evaluated (now (text .entry)) (now (table .entry)) allowance) ⌝ }
+{
+    let answer = expressions::evaluate(text, table, allowance);
+    match answer {
+        Evaluated::Value { pattern, end } => pack(0, IN_THE_TEXT, end.0, high_half(pattern)),
+        Evaluated::Refused { number, at } => pack(number, IN_THE_TEXT, at.0, 0),
+        Evaluated::BadTable { number, at } => pack(number, IN_THE_TABLE, at.0, 0),
     }
 }
