@@ -56,7 +56,8 @@ pub fn no_digit(random: &mut Random) -> Vec<u8> {
     [start, behind].concat().into_bytes()
 }
 
-fn in_some_form(random: &mut Random, value: u64) -> Vec<u8> {
+/// A number of a known value in any of the three forms.
+pub fn in_some_form(random: &mut Random, value: u64) -> Vec<u8> {
     match random.below(4) {
         0 => in_base(random, value, 10),
         1 => [vec![b'&'], in_base(random, value, 16)].concat(),

@@ -1,0 +1,90 @@
+//! Few look-ups, bad tables, long names, and texts and tables around the longest ones.
+
+use super::eval;
+use super::texts::known;
+use crate::cases::tables::{numbered, of_length, Entry};
+use crate::lines::Case;
+
+pub fn fixed() -> Vec<Case> {
+    [
+        allowances(),
+        bad_tables(),
+        long_names(),
+        long_texts(),
+        longest_slices(),
+    ]
+    .into_iter()
+    .flatten()
+    .collect()
+}
+
+/// At the exact number of look-ups and around it, some of them before a refusal.
+fn allowances() -> Vec<Case> {
+    let known = known();
+    let mut cases = Vec::new();
+    for allowance in [0, 1, 2, 3, 4, u32::MAX] {
+        for text in ["i+i*i", "i+s", "i+q", "i/0+i", "(i)", "1", "x_1*i/x_1+i"] {
+            cases.push(eval(text.as_bytes(), &known, allowance));
+        }
+    }
+    cases
+}
+
+/// A bad table comes before everything but the lengths, even where no name stands.
+fn bad_tables() -> Vec<Case> {
+    let nameless = [Entry::integer("i", 7), Entry::integer("", 0)];
+    let twins = [Entry::integer("i", 7), Entry::string("I", b"")];
+    let mut short = Entry::integer("i", 7);
+    short.value.pop();
+    let mut cases = Vec::new();
+    for text in ["1", "(", "i", "", "37_1", "q", "1/0", "#", "1\0"] {
+        cases.push(eval(text.as_bytes(), &nameless, 1));
+        cases.push(eval(text.as_bytes(), &twins, 0));
+        cases.push(eval(text.as_bytes(), std::slice::from_ref(&short), 1));
+    }
+    for text in ["(", "1", "aa"] {
+        cases.push(eval(text.as_bytes(), &numbered(256), 1));
+        cases.push(eval(text.as_bytes(), &numbered(257), 1));
+    }
+    cases
+}
+
+/// Names around the longest, with and without a variable that they begin with.
+fn long_names() -> Vec<Case> {
+    let longest = [Entry::integer(&"n".repeat(32), 1)];
+    let mut cases = Vec::new();
+    for length in [31, 32, 33, 34, 64, 255, 256, 257, 288] {
+        let name = "n".repeat(length);
+        for text in [name.clone(), name.to_uppercase(), format!("1+{name}*2")] {
+            cases.push(eval(text.as_bytes(), &longest, 1));
+        }
+    }
+    cases
+}
+
+/// Thousands of brackets, terms and digits.
+fn long_texts() -> Vec<Case> {
+    vec![
+        eval(&[b"1".to_vec(), b"+(1)".repeat(2_000)].concat(), &[], 0),
+        eval(&[b"1".to_vec(), b")".repeat(2_000)].concat(), &[], 0),
+        eval(&[b"(1)-".repeat(2_000), b"(".to_vec()].concat(), &[], 0),
+        eval(&[vec![b'0'; 4_000], b"7+i".to_vec()].concat(), &known(), 1),
+        eval(&[vec![b' '; 4_000], b"i".to_vec()].concat(), &known(), 1),
+    ]
+}
+
+/// Slices of 65,535 bytes and of one more; few, for each is a long line.
+fn longest_slices() -> Vec<Case> {
+    let ended_early = [b"1\0".to_vec(), vec![b'('; 65_534]].concat();
+    let over_long_and_bad = Case::Eval {
+        text: ended_early,
+        table: vec![0; 65_536],
+        allowance: 0,
+    };
+    vec![
+        eval(&[b"1".to_vec(), b"-1".repeat(32_767)].concat(), &[], 0),
+        eval(&vec![b'('; 65_535], &[], 0),
+        eval(b"1+(", &of_length(65_536), 0),
+        over_long_and_bad,
+    ]
+}
