@@ -45,6 +45,17 @@ pub(crate) fn put_number(out: &mut [u8], at: usize, number: usize) -> usize {
     put_word(out, start, &digits[..count])
 }
 
+// A space, and the signed number of a 32-bit pattern in decimal.
+pub(crate) fn put_signed(out: &mut [u8], at: usize, pattern: u32) -> usize {
+    if pattern < 2147483648 {
+        return put_number(out, at, pattern as usize);
+    }
+    let start = put_word(out, at, b" -");
+    let mut digits = [0u8; 20];
+    let count = io::decimal(4294967296 - pattern as u64, &mut digits);
+    put_word(out, start, &digits[..count])
+}
+
 // A space, and bytes in hex, or "-" for none.
 pub(crate) fn put_hex(out: &mut [u8], at: usize, bytes: &[u8]) -> usize {
     let start = put(out, at, b' ');

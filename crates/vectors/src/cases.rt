@@ -1,5 +1,6 @@
 // One case: its first word says for which operation.
 mod conv;
+mod eval;
 mod look;
 mod read;
 mod table;
@@ -36,6 +37,10 @@ pub(crate) fn answer(
     let behind_trans = fields::take_word(line, b"trans");
     if behind_trans.good {
         return trans::answer(line, behind_trans, text, table, lent, out);
+    }
+    let behind_eval = fields::take_word(line, b"eval");
+    if behind_eval.good {
+        return eval::answer(line, behind_eval, text, table, out);
     }
     answers::bad_line(out)
 }
