@@ -1,6 +1,6 @@
--- How far the numbers of an evaluation go: every place lies in the text.
+-- How far the numbers of an evaluation go: every place lies in the text, and every refusal is a listed one.
 use mathlib.Core.Bool.{cond, true, false, _&&_}
-use mathlib.Core.List.{List}
+use mathlib.Core.List.{List, List·Memᴰ, List·Memᴰ·head as head, List·Memᴰ·tail as tail}
 use mathlib.Core.Path.{_≡_, refl, sym, ap, subst, _∙_}
 use Prim.Native.Nat.{ℕ, zero, suc, _+_, _<_, _≤_}
 use native.Mathlib.Omega.{arith}
@@ -8,28 +8,30 @@ use borrow.Author.Tests.{ltb-false}
 use lib.Dec.{ltb, eqb}
 use lib.ListN.{length, getD, drop, length-drop}
 use Rattle.paper.specs.Bytes.{spaces, ends}
-use Rattle.paper.specs.Refusals.{longest}
+use Rattle.paper.specs.Refusals.{no-digit, bad-base, too-big, unknown-name, too-deep, allowance-spent, bad-expression, zero-divisor, not-an-integer, over-length, longest}
 use Rattle.paper.specs.Texts.{bytes}
 use Rattle.paper.specs.Traces.{Trace, Run, finished, stopped, run, ended as end-at, refused, allowed}
+use Rattle.paper.specs.Traces as Traces
 use Rattle.paper.specs.declared.faults.Fault.{Fault}
+use Rattle.paper.specs.declared.faults.Fault.the-variants.{TooDeep, BadExpression}
 use Rattle.paper.proofs.Choice.{either}
-use Rattle.paper.proofs.Placed.{Placed, ended-at, refused-at, asks-on, spends-at, placeOf as placeReached, run-placed}
+use Rattle.paper.proofs.Placed.{Placed, ended-at, refused-at, asks-on, spends-at, placeOf as placeReached, run-placed, member, Listed, run-listed}
 use Rattle.paper.proofs.DemandThree.{stopped-number}
 use Rattle.paper.proofs.Spaces.{skipped-within}
 use Rattle.reader.specs.Reading.{reading}
 use Rattle.reader.specs.declared.Reading.{Reading}
 use Rattle.reader.specs.declared.Reading.the-variants.{Value, Refused}
 use Rattle.variables.specs.Records.{sameBytes}
-use Rattle.variables.specs.Tables.{checked}
+use Rattle.variables.specs.Tables.{checked, checkNumbers}
 use Rattle.variables.specs.Names.{Meaning, unknown, string-of, integer-of, macro-of, namesOf}
 use Rattle.variables.specs.declared.Checked.{Checked}
 use Rattle.variables.specs.declared.Checked.the-variants.{Good, Refused as Unsound}
-use Rattle.variables.proofs.Bounds.{Bounded, checked-bounded}
+use Rattle.variables.proofs.Bounds.{Bounded as Checks, checked-bounded}
 use Rattle.expressions.specs.Operators.{levelOf, loosest, standsAlone, divides}
-use Rattle.expressions.specs.Tokens.{letter, wordToken, numberBy, single, fromLess, fromGreater, symbolAt, numeral, startingAt, tokenAt}
+use Rattle.expressions.specs.Tokens.{letter, wordToken, faultOf, numberBy, single, fromLess, fromGreater, symbolAt, numeral, startingAt, tokenAt}
 use Rattle.expressions.specs.Trees.{Tree, constant, variable, unary, binary, Parsed, tree, wrong, bindingBy, binding, joined, covered, extended, closedBy, wholeBy, Deeper, following, levelAt, closed, operandBy, deepest, oneDeeper, startedIn, operandAt, ended, whole}
 use Rattle.expressions.specs.Evaluations.{named, divided, valueOf, steps, evaluation}
-use Rattle.expressions.specs.Answers.{readingOf, valueIn, evaluatedBy, evaluatedOver, evaluated, numberOf, placeOf}
+use Rattle.expressions.specs.Answers.{readingOf, valueIn, evaluatedBy, evaluatedOver, evaluated, numberOf, placeOf, evaluateNumbers}
 use Rattle.expressions.specs.declared.Evaluated.{Evaluated}
 use Rattle.expressions.specs.declared.operators.Operator.{Operator}
 use Rattle.expressions.specs.declared.tokens.Lexed.{Lexed}
@@ -40,12 +42,16 @@ use Rattle.expressions.specs.declared.levels.Behind.the-variants.{Binds,
 use Rattle.expressions.proofs.Places.{Takes, stands, Reads, reading-reads}
 use Rattle.expressions.proofs.Onward.{binds-onward}
 
+-- a fault that an evaluation can be refused for
+abbrev Mentioned : Fault → Type 0
+Mentioned fault = List·Memᴰ (Traces.numberOf fault) evaluateNumbers
+
 -- a number that the reader refuses is refused inside a text of so many bytes
 abbrev BadIn : ℕ → Token → Type 0
 BadIn size End = Unit {0}
 BadIn size (Operates operator) = Unit {0}
 BadIn size (Number value) = Unit {0}
-BadIn size (BadNumber fault place) = place ≤ size
+BadIn size (BadNumber fault place) = Mentioned fault × (place ≤ size)
 BadIn size Name = Unit {0}
 BadIn size Open = Unit {0}
 BadIn size Close = Unit {0}
@@ -68,9 +74,15 @@ module _ (text : List ℕ) where
       (λ _. either (BadIn size) (sameBytes (bytes "EOR") word) (λ _. tt)
       (λ _. either (BadIn size) (sameBytes (bytes "NOT") word) (λ _. tt) (λ _. tt)))))
 
+  fault-in : (number : ℕ) → Mentioned (faultOf number)
+  unfolding faultOf
+  fault-in number =
+      either Mentioned (eqb number no-digit) (λ _. member no-digit evaluateNumbers refl)
+      (λ _. either Mentioned (eqb number bad-base) (λ _. member bad-base evaluateNumbers refl) (λ _. member too-big evaluateNumbers refl))
+
   number-in : (at : ℕ) (r : Reading) → at ≤ size → Reads (length (drop at text)) r → InText (numberBy r at)
   number-in at (Value n) h r = (h, tt)
-  number-in at (Refused number place) h r = (h, omega (arith, length-drop at text))
+  number-in at (Refused number place) h r = (h, (fault-in number, omega (arith, length-drop at text)))
 
   single-in : (c : ℕ) → BadIn size (single c)
   unfolding single
@@ -114,15 +126,21 @@ module _ (text : List ℕ) where
 
   data Stays : Parsed → Type 0 where
     tree-in : {t : Tree} {next : ℕ} → Inside t → next ≤ size → Stays (tree t next)
-    wrong-in : {fault : Fault} {place : ℕ} → place ≤ size → Stays (wrong fault place)
+    wrong-in : {fault : Fault} {place : ℕ} → Mentioned fault → place ≤ size → Stays (wrong fault place)
+
+  misplaced : {place : ℕ} → place ≤ size → Stays (wrong BadExpression place)
+  misplaced p = wrong-in (member bad-expression evaluateNumbers refl) p
+
+  too-deep-in : {place : ℕ} → place ≤ size → Stays (wrong TooDeep place)
+  too-deep-in p = wrong-in (member too-deep evaluateNumbers refl) p
 
   joined-in : (operator : Operator) (place : ℕ) (left : Tree) (parsed : Parsed) → place ≤ size → Inside left → Stays parsed → Stays (joined operator place left parsed)
   joined-in operator place left (tree right next) p l (tree-in r n) = tree-in {t = binary operator place left right} (p, l, r) n
-  joined-in operator place left (wrong fault at) p l (wrong-in w) = wrong-in w
+  joined-in operator place left (wrong fault at) p l (wrong-in m w) = wrong-in m w
 
   covered-in : (operator : Operator) (parsed : Parsed) → Stays parsed → Stays (covered operator parsed)
   covered-in operator (tree inner next) (tree-in i n) = tree-in i n
-  covered-in operator (wrong fault at) (wrong-in w) = wrong-in w
+  covered-in operator (wrong fault at) (wrong-in m w) = wrong-in m w
 
   -- where an operator binds, its place is its token's
   binds-at : (level at next place next′ : ℕ) (operator : Operator) (token : Token) → bindingBy level token at next ≡ Binds operator place next′ → place ≡ at
@@ -162,13 +180,13 @@ module _ (text : List ℕ) where
 
   closed-by : (inner : Tree) (at next : ℕ) (token : Token) → Inside inner → at ≤ size → (Takes token → next ≤ size) → Stays (closedBy inner token at next)
   closed-by inner at next Close i a n = tree-in i (n tt)
-  closed-by inner at next End i a n = wrong-in a
-  closed-by inner at next (Operates operator) i a n = wrong-in a
-  closed-by inner at next (Number value) i a n = wrong-in a
-  closed-by inner at next (BadNumber fault place) i a n = wrong-in a
-  closed-by inner at next Name i a n = wrong-in a
-  closed-by inner at next Open i a n = wrong-in a
-  closed-by inner at next Strange i a n = wrong-in a
+  closed-by inner at next End i a n = misplaced a
+  closed-by inner at next (Operates operator) i a n = misplaced a
+  closed-by inner at next (Number value) i a n = misplaced a
+  closed-by inner at next (BadNumber fault place) i a n = misplaced a
+  closed-by inner at next Name i a n = misplaced a
+  closed-by inner at next Open i a n = misplaced a
+  closed-by inner at next Strange i a n = misplaced a
 
   closed-in : (parsed : Parsed) → Stays parsed → Stays (closed text parsed)
   closed-in (wrong fault place) s = s
@@ -178,13 +196,13 @@ module _ (text : List ℕ) where
 
   whole-by : (inner : Tree) (at : ℕ) (token : Token) → Inside inner → at ≤ size → Stays (wholeBy inner token at)
   whole-by inner at End i a = tree-in i a
-  whole-by inner at Close i a = wrong-in a
-  whole-by inner at (Operates operator) i a = wrong-in a
-  whole-by inner at (Number value) i a = wrong-in a
-  whole-by inner at (BadNumber fault place) i a = wrong-in a
-  whole-by inner at Name i a = wrong-in a
-  whole-by inner at Open i a = wrong-in a
-  whole-by inner at Strange i a = wrong-in a
+  whole-by inner at Close i a = misplaced a
+  whole-by inner at (Operates operator) i a = misplaced a
+  whole-by inner at (Number value) i a = misplaced a
+  whole-by inner at (BadNumber fault place) i a = misplaced a
+  whole-by inner at Name i a = misplaced a
+  whole-by inner at Open i a = misplaced a
+  whole-by inner at Strange i a = misplaced a
 
   ended-in : (parsed : Parsed) → Stays parsed → Stays (ended text parsed)
   ended-in (wrong fault place) s = s
@@ -197,14 +215,14 @@ module _ (text : List ℕ) where
   operand-by : (deeper : Deeper) → Covers deeper → (at next : ℕ) (token : Token) → at ≤ size → BadIn size token → (Takes token → next ≤ size)
       → Stays (operandBy text deeper token at next)
   operand-by deeper d at next (Number value) a b n = tree-in tt (n tt)
-  operand-by deeper d at next (BadNumber fault place) a b n = wrong-in b
+  operand-by deeper d at next (BadNumber fault place) a b n = wrong-in (b .0) (b .1)
   operand-by deeper d at next Name a b n = tree-in a (n tt)
   operand-by deeper d at next (Operates operator) a b n =
-      either Stays (standsAlone operator) (λ _. d .under operator at next a (n tt)) (λ _. wrong-in a)
+      either Stays (standsAlone operator) (λ _. d .under operator at next a (n tt)) (λ _. misplaced a)
   operand-by deeper d at next Open a b n = d .bracket at next a (n tt)
-  operand-by deeper d at next End a b n = wrong-in a
-  operand-by deeper d at next Close a b n = wrong-in a
-  operand-by deeper d at next Strange a b n = wrong-in a
+  operand-by deeper d at next End a b n = misplaced a
+  operand-by deeper d at next Close a b n = misplaced a
+  operand-by deeper d at next Strange a b n = misplaced a
 
   started-in : (deeper : Deeper) → Covers deeper → (at : ℕ) → at ≤ size → Stays (startedIn text deeper at)
   started-in deeper d at h =
@@ -213,7 +231,7 @@ module _ (text : List ℕ) where
 
   operand-in : (levels at : ℕ) → at ≤ size → Stays (operandAt text levels at)
   unfolding operandAt
-  operand-in zero at h = started-in (deepest text) (record { under = λ o p next a n. wrong-in a; bracket = λ p next a n. wrong-in a }) at h
+  operand-in zero at h = started-in (deepest text) (record { under = λ o p next a n. too-deep-in a; bracket = λ p next a n. too-deep-in a }) at h
   operand-in (suc levels) at h =
       started-in (oneDeeper text (operandAt text levels))
       (record {
@@ -228,13 +246,13 @@ module _ (text : List ℕ) where
 
   -- and of its evaluation
   module _ (names : List ℕ → Meaning) where
-    named-placed : (m : Meaning) (place : ℕ) (rest : Trace) → place ≤ size → Placed size rest → Placed size (named m place rest)
-    named-placed unknown place rest p r = refused-at p
-    named-placed (string-of value) place rest p r = refused-at p
-    named-placed (macro-of value) place rest p r = refused-at p
+    named-placed : (m : Meaning) (place : ℕ) (rest : Trace) → place ≤ size → Placed evaluateNumbers size rest → Placed evaluateNumbers size (named m place rest)
+    named-placed unknown place rest p r = refused-at (member unknown-name evaluateNumbers refl) p
+    named-placed (string-of value) place rest p r = refused-at (member not-an-integer evaluateNumbers refl) p
+    named-placed (macro-of value) place rest p r = refused-at (member not-an-integer evaluateNumbers refl) p
     named-placed (integer-of pattern) place rest p r = spends-at p r
 
-    steps-placed : (t : Tree) (rest : Trace) → Inside t → Placed size rest → Placed size (steps names t rest)
+    steps-placed : (t : Tree) (rest : Trace) → Inside t → Placed evaluateNumbers size rest → Placed evaluateNumbers size (steps names t rest)
     unfolding divided
     steps-placed (constant pattern) rest i r = r
     steps-placed (variable word place) rest i r = asks-on (named-placed (names word) place rest i r)
@@ -242,32 +260,41 @@ module _ (text : List ℕ) where
     steps-placed (binary operator place left right) rest i r =
         let last : Trace = divided operator place (valueOf names right) rest in
         steps-placed left (steps names right last) (i .1)
-        (steps-placed right last (i .2) (either (Placed size) (divides operator && eqb (valueOf names right) 0) (λ _. refused-at (i .0)) (λ _. r)))
+        (steps-placed right last (i .2) (either (Placed evaluateNumbers size) (divides operator && eqb (valueOf names right) 0) (λ _. refused-at (member zero-divisor evaluateNumbers refl) (i .0)) (λ _. r)))
 
-    evaluation-placed : (parsed : Parsed) → Stays parsed → Placed size (evaluation names parsed)
-    evaluation-placed (wrong fault place) (wrong-in w) = refused-at w
+    evaluation-placed : (parsed : Parsed) → Stays parsed → Placed evaluateNumbers size (evaluation names parsed)
+    evaluation-placed (wrong fault place) (wrong-in m w) = refused-at m w
     evaluation-placed (tree t end) (tree-in i e) = steps-placed t (end-at end) i (ended-at e)
 
--- every answer's numbers are small enough to pack
-pub record Packable (r : Evaluated) : Type 0 where
+-- every answer's numbers are small enough to pack, and its number is a listed one
+pub record Bounded (r : Evaluated) : Type 0 where
   pub number : numberOf r ≤ 18
   pub place : placeOf r ≤ longest
+  pub listed : List·Memᴰ (numberOf r) evaluateNumbers
 
-by-packable : (r : Run) (value : ℕ) → placeReached r ≤ longest → ((number place : ℕ) → r ≡ stopped number place → number ≤ 18) → Packable (evaluatedBy r value)
-by-packable (finished end left) value p n = record { number = omega arith; place = p }
-by-packable (stopped number place) value p n = record { number = n number place refl; place = p }
+by-bounded : (r : Run) (value : ℕ) → placeReached r ≤ longest → ((number place : ℕ) → r ≡ stopped number place → number ≤ 18) → Listed evaluateNumbers r
+    → Bounded (evaluatedBy r value)
+by-bounded (finished end left) value p n l = record { number = omega arith; place = p; listed = head refl }
+by-bounded (stopped number place) value p n l = record { number = n number place refl; place = p; listed = l }
 
-pub evaluated-packable : (text table : List ℕ) (allowance : ℕ) → Packable (evaluated text table allowance)
+pub evaluated-bounded : (text table : List ℕ) (allowance : ℕ) → Bounded (evaluated text table allowance)
 unfolding evaluated
-evaluated-packable text table allowance =
-    either Packable (ltb longest (length text))
-    (λ _. record { number = omega arith; place = omega arith })
+evaluated-bounded text table allowance =
+    either Bounded (ltb longest (length text))
+    (λ _. record { number = omega arith; place = omega arith; listed = member over-length evaluateNumbers refl })
     (λ e. over (ltb-false longest (length text) e) (checked table) (checked-bounded table))
   where
-    over : length text ≤ longest → (d : Checked) → Bounded d → Packable (evaluatedOver d (readingOf text table) allowance (valueIn text table))
+    widened : {n : ℕ} → List·Memᴰ n checkNumbers → List·Memᴰ n evaluateNumbers
+    widened (head e) = head e
+    widened (tail (head e)) = tail (head e)
+    widened (tail (tail (head e))) = tail (tail (head e))
+
+    over : length text ≤ longest → (d : Checked) → Checks d → Bounded (evaluatedOver d (readingOf text table) allowance (valueIn text table))
     over short (Good count) b =
         let t = readingOf text table in
-        let within = run-placed (evaluation-placed text (namesOf table) (whole text) (whole-in text)) (allowed allowance) in
-        by-packable (run t (allowed allowance)) (valueIn text table) (omega arith)
+        let placed = evaluation-placed text (namesOf table) (whole text) (whole-in text) in
+        let within = run-placed placed (allowed allowance) in
+        by-bounded (run t (allowed allowance)) (valueIn text table) (omega arith)
         (λ number place q. omega (arith, stopped-number t (allowed allowance) number place q))
-    over short (Unsound number at) b = record { number = b .number; place = b .place }
+        (run-listed evaluateNumbers (member allowance-spent evaluateNumbers refl) placed (allowed allowance))
+    over short (Unsound number at) b = record { number = b .number; place = b .place; listed = widened (b .listed) }

@@ -1,20 +1,20 @@
 -- How far the numbers of a translation go: every place lies in the text, and every look-up gives 255 bytes at the most.
 use mathlib.Core.Path.{_≡_, refl, ap, sym, subst, _∙_}
 use mathlib.Core.Bool.{true, cond}
-use mathlib.Core.List.{List, [], _∷_, _++_}
+use mathlib.Core.List.{List, [], _∷_, _++_, List·Memᴰ, Memᴰ·cast, List·Memᴰ·head as head, List·Memᴰ·tail as tail}
 use Prim.Native.Nat.{ℕ, zero, suc, _+_, _-_, _*_, _%_, _≤_, _<_}
 use native.Mathlib.Omega.{arith}
-use native.Mathlib.Decide.{decLt}
+use native.Mathlib.Decide.{decLt, decLe}
 use lib.Dec.{ltb, eqb}
 use lib.ListN.{length, getD, take, drop, length-append, length-take, List·getD-eq-default}
 use lib.Seq.{getD-take, getD-drop}
 use borrow.Author.Tests.{ltb-false}
 use Rattle.paper.specs.Answers.{Answer}
-use Rattle.paper.specs.Refusals.{too-big, longest}
-use Rattle.paper.specs.Traces.{Reference, Trace, ended, refused, gives, asks, spends, enters, bytes, Run, finished, stopped, behind, spending, run, fit, Ending, done, failed, beyond, ending, reached, lookUps, allowed}
+use Rattle.paper.specs.Refusals.{no-room, too-big, bad-code, bad-string, bad-reference, unknown-name, too-deep, allowance-spent, over-length, longest}
+use Rattle.paper.specs.Traces.{numberOf, Reference, Trace, ended, refused, gives, asks, spends, enters, bytes, Run, finished, stopped, behind, spending, run, fit, Ending, done, failed, beyond, ending, reached, lookUps, allowed}
 use Rattle.paper.specs.declared.faults.Fault.{Fault}
 use Rattle.paper.proofs.Choice.{either}
-use Rattle.paper.proofs.Placed.{Placed, ended-at, refused-at, gives-on, asks-on, spends-at, enters-at, placeOf, run-placed}
+use Rattle.paper.proofs.Placed.{Placed, ended-at, refused-at, gives-on, asks-on, spends-at, enters-at, placeOf, run-placed, member, Listed, run-listed}
 use Rattle.paper.proofs.DemandThree.{stopped-number, finished-within}
 use Rattle.reader.specs.Reading.{reading}
 use Rattle.reader.specs.declared.Reading.{Reading}
@@ -23,14 +23,15 @@ use Rattle.numbers.specs.declared.forms.Width.the-variants.{Word}
 use Rattle.numbers.proofs.Bounds.{decimal-short}
 use Rattle.gs.specs.Symbols.{symbolAt, opened}
 use Rattle.gs.specs.Readings.{givesAll, decimalOf, Expand, named, content, symbolic, following, whole, expands}
-use Rattle.gs.specs.Translations.{readingOf, translatedBy, translatedOver, translated, inPaper}
+use Rattle.gs.specs.Translations.{readingOf, translatedBy, translatedOver, translated, inPaper, translateNumbers}
+use Rattle.gs.specs.declared.Translated.{Translated}
 use Rattle.gs.specs.declared.symbols.Mode.{Mode}
 use Rattle.gs.specs.declared.symbols.Opening.{Opening}
 use Rattle.gs.specs.declared.symbols.Symbol.{Symbol}
 use Rattle.gs.specs.declared.symbols.Symbol.the-variants.{End, Byte, Reference as Names, Bad}
 use Rattle.variables.specs.Records as Records
 use Rattle.variables.specs.Records.{Entry, nothing, means, valueLength, valueStart, valueAt, entryAt}
-use Rattle.variables.specs.Tables.{most, checked, meaningOf}
+use Rattle.variables.specs.Tables.{checked, meaningOf, checkNumbers}
 use Rattle.variables.specs.Names.{Meaning, unknown, string-of, integer-of, macro-of, meant, inReading, namesOf}
 use Rattle.variables.specs.declared.Checked.{Checked}
 use Rattle.variables.specs.declared.Checked.the-variants.{Good, Refused as Unsound}
@@ -41,16 +42,25 @@ use Rattle.gs.proofs.Places.{Stands, quoteOf, symbol-stands, opened-sta
 clash : {A : Type 0} → _≡_ {A = ℕ} 0 1 → A
 clash z = absurd (omega arith)
 
+-- the three faults of a symbol
+symbol-listed : (number : ℕ) → 7 ≤ number → number ≤ 9 → List·Memᴰ number translateNumbers
+symbol-listed number least most = go (decLe number 7) (decLe number 8)
+  where
+    go : Dec (number ≤ 7) → Dec (number ≤ 8) → List·Memᴰ number translateNumbers
+    go (yes h) d = Memᴰ·cast (omega arith) (member bad-code translateNumbers refl)
+    go (no n) (yes h) = Memᴰ·cast (omega arith) (member bad-string translateNumbers refl)
+    go (no n) (no m) = Memᴰ·cast (omega arith) (member bad-reference translateNumbers refl)
+
 -- where the reading succeeds it gives no more bytes than a number of its own and 255 for each look-up
 pub record Limited (n size : ℕ) (t : Trace) : Type 0 where
-  pub placed : Placed size t
+  pub placed : Placed translateNumbers size t
   pub short : (end : ℕ) → ending t ≡ done end → length (bytes t) ≤ n + 255 * lookUps t
 
 limited-ended : (n size end : ℕ) → end ≤ size → Limited n size (ended end)
 limited-ended n size end p = record { placed = ended-at p; short = λ e q. omega arith }
 
-limited-refused : (n size place : ℕ) (fault : Fault) → place ≤ size → Limited n size (refused fault place)
-limited-refused n size place fault p = record { placed = refused-at p; short = λ e q. omega arith }
+limited-refused : (n size place : ℕ) (fault : Fault) → List·Memᴰ (numberOf fault) translateNumbers → place ≤ size → Limited n size (refused fault place)
+limited-refused n size place fault m p = record { placed = refused-at m p; short = λ e q. omega arith }
 
 limited-more : (n m size : ℕ) (t : Trace) → n ≤ m → Limited n size t → Limited m size t
 limited-more n m size t h l = record { placed = l .placed; short = λ e q. omega (arith, l .short e q) }
@@ -77,7 +87,7 @@ limited-enters : (n size inner : ℕ) (reference : Reference) (value rest : Trac
     → Limited (n + 255) size (enters reference value rest)
 limited-enters n size inner reference value rest p v l =
     record {
-      placed = enters-at p (l .placed);
+      placed = enters-at p (v .placed) (l .placed);
       short = λ e q.
           let b = both-done (ending value) (ending rest) (reference .place) e q in
           let reach : reached (ending value) (lookUps rest) ≡ lookUps rest = ap (λ o. reached o (lookUps rest)) (b .0 .1) in
@@ -99,7 +109,7 @@ pub record Paid (expand : Expand) : Type 0 where
 module _ (expand : Expand) (pays : Paid expand) (name : List ℕ) (place n size : ℕ) (rest : Trace) (p : place ≤ size) (l : Limited n size rest) where
   named-limited : (m : Meaning) → Fitting m → Limited n size (named expand m name place rest)
   unfolding named
-  named-limited unknown f = limited-refused n size place _ p
+  named-limited unknown f = limited-refused n size place _ (member unknown-name translateNumbers refl) p
   named-limited (string-of bs) (string-fits h) =
       limited-spends n size place (givesAll bs rest) p (limited-all bs n (n + 255) size rest (omega arith) l)
   named-limited (integer-of v) f =
@@ -112,7 +122,7 @@ module _ (expand : Expand) (pays : Paid expand) (name : List ℕ) (place n size 
   content-limited names (Value v) f = limited-gives n size (v .value % 256) rest l
   content-limited names (Refused number at) f =
       either (Limited (suc n) size) (eqb number too-big)
-      (λ _. limited-refused (suc n) size place _ p)
+      (λ _. limited-refused (suc n) size place _ (member too-big translateNumbers refl) p)
       (λ _. limited-asks (suc n) size name (named expand (names name) name place rest)
       (limited-more n (suc n) size (named expand (names name) name place rest) (omega arith) (named-limited (names name) f)))
 
@@ -130,7 +140,7 @@ module _ (names : List ℕ → Meaning) (fits : (name : List ℕ) → Fitting (n
       limited-more (suc (length text - next)) _ (length text) (content names expand (reading name true 4294967295) name at (rest next))
       (omega (arith, s .begins, s .long, s .behind, s .within))
       (content-limited expand pays name at (length text - next) (length text) (rest next) a (f next (s .within)) names (reading name true 4294967295) (fits name))
-  symbolic-limited text at (Bad fault place) rest a s f = limited-refused _ (length text) (place .0) fault (s .within)
+  symbolic-limited text at (Bad fault place) rest a s f = limited-refused _ (length text) (place .0) fault (symbol-listed (numberOf fault) (s .least) (s .most)) (s .within)
 
   module _ (text : List ℕ) (flags : ℕ) (mode : Mode) (bs : (k : ℕ) → getD text k 0 ≤ 255) (quote : quoteOf mode ≤ length text) where
     following-limited : (more here : ℕ) → here ≤ length text
@@ -152,7 +162,7 @@ module _ (names : List ℕ → Meaning) (fits : (name : List ℕ) → Fitting (n
 
 expands-paid : (names : List ℕ → Meaning) → ((name : List ℕ) → Fitting (names name)) → (levels : ℕ) → Paid (expands names levels)
 unfolding expands
-expands-paid names fits zero = record { paid = λ name value place n size rest h b p l. limited-refused n size place _ p }
+expands-paid names fits zero = record { paid = λ name value place n size rest h b p l. limited-refused n size place _ (member too-deep translateNumbers refl) p }
 expands-paid names fits (suc levels) =
     record {
       paid = λ name value place n size rest h b p l.
@@ -225,6 +235,30 @@ module _ (text table : List ℕ) (flags allowance room : ℕ) (bs : (k : ℕ) �
   packable-over (Unsound number at) e h =
       let b = subst Bounded e (checked-bounded table) in
       record { number = b .number; place = b .place; need = omega arith }
+
+  -- the number of an answer is a listed one
+  abbrev Numbered : Translated → Type 0
+  Numbered r = List·Memᴰ (inPaper r .number) translateNumbers
+
+  listed-by : (r : Run) → Listed translateNumbers r → Numbered (translatedBy (fit r (length (bytes t)) room))
+  listed-by (finished end left) l =
+      either (λ a. Numbered (translatedBy a)) (ltb room (length (bytes t))) (λ _. member no-room translateNumbers refl) (λ _. member 0 translateNumbers refl)
+  listed-by (stopped number place) l = either Numbered (eqb number 0) (λ _. member 0 translateNumbers refl) (λ _. l)
+
+  listed-over : (d : Checked) → Bounded d → Numbered (translatedOver d t allowance room)
+  listed-over (Good count) b =
+      listed-by (run t (allowed allowance)) (run-listed translateNumbers (member allowance-spent translateNumbers refl) (limited .placed) (allowed allowance))
+  listed-over (Unsound number at) b = widened (b .listed)
+    where
+      widened : {n : ℕ} → List·Memᴰ n checkNumbers → List·Memᴰ n translateNumbers
+      widened (head e) = head e
+      widened (tail (head e)) = tail (head e)
+      widened (tail (tail (head e))) = tail (tail (head e))
+
+  pub translated-listed : Numbered (translated text table flags allowance room)
+  unfolding translated
+  translated-listed =
+      either Numbered (ltb longest (length text)) (λ _. member over-length translateNumbers refl) (λ _. listed-over (checked table) (checked-bounded table))
 
   pub translated-packable : Packable (inPaper (translated text table flags allowance room))
   unfolding translated

@@ -8,6 +8,7 @@ use borrow.Author.Tests.{ltb-true, leb-false, eqb-true, eqb-false}
 use lib.Dec.{ltb, leb, eqb}
 use lib.ListN.{length, getD, drop}
 use Rattle.paper.specs.Bytes.{spaces, ends}
+use Rattle.paper.specs.Traces.{numberOf}
 use Rattle.paper.specs.declared.faults.Fault.the-variants.{BadCode}
 use Rattle.paper.proofs.Choice.{either}
 use Rattle.paper.proofs.Spaces.{inside, spaces-within, skipped-within}
@@ -38,14 +39,17 @@ module _ (size at : ℕ) where
     pub behind : next ≡ end + 1
     pub within : next ≤ size
 
-  pub record FailsAt (place : ℕ) : Type 0 where
+  -- 7, 8 or 9
+  pub record FailsAt (number place : ℕ) : Type 0 where
     pub within : place ≤ size
+    pub least : 7 ≤ number
+    pub most : number ≤ 9
 
   abbrev pub Stands : Symbol → Type 0
   Stands (End place) = EndsAt (place .0)
   Stands (Byte b next) = GivesByte b next
   Stands (Reference start end next) = RefersTo start end next
-  Stands (Bad fault place) = FailsAt (place .0)
+  Stands (Bad fault place) = FailsAt (numberOf fault) (place .0)
 
 -- the place of the open quote, 0 for none
 abbrev pub quoteOf : Mode → ℕ

@@ -1,11 +1,11 @@
 -- What a translation answers, and what it leaves in the buffer.
 use mathlib.Core.Bool.{cond}
-use mathlib.Core.List.{List, _++_}
+use mathlib.Core.List.{List, [], _∷_, _++_}
 use Prim.Native.Nat.{ℕ}
 use lib.Dec.{ltb, eqb}
 use lib.ListN.{length, drop}
 use Rattle.paper.specs.Answers.{Answer}
-use Rattle.paper.specs.Refusals.{over-length, longest}
+use Rattle.paper.specs.Refusals.{no-room, too-big, bad-code, bad-string, bad-reference, unknown-name, too-deep, allowance-spent, bad-table, over-length, longest}
 use Rattle.paper.specs.Traces.{Trace, bytes, answer, allowed}
 use Rattle.variables.specs.Tables.{checked}
 use Rattle.variables.specs.Names.{namesOf}
@@ -51,3 +51,8 @@ abbrev pub inPaper : Translated → Answer
 inPaper (Written end need free) = record { number = 0; place = end .0; need = need; free = free }
 inPaper (Refused number at need free) = record { number = number; place = at .0; need = need; free = free }
 inPaper (BadTable number at free) = record { number = number; place = at .0; need = 0; free = free }
+
+-- the numbers that an answer can have: 18 and 13, those that the reading meets, 1 last
+abbrev pub translateNumbers : List ℕ
+translateNumbers =
+    0 ∷ over-length ∷ bad-table ∷ bad-reference ∷ too-big ∷ unknown-name ∷ too-deep ∷ allowance-spent ∷ bad-code ∷ bad-string ∷ no-room ∷ []

@@ -17,7 +17,7 @@ use Rattle.expressions.specs.Answers as Answers
 use Rattle.expressions.specs.Answers.{evaluated, patternOf}
 use Rattle.expressions.specs.declared.Evaluated.{Evaluated}
 use Rattle.expressions.specs.declared.Evaluated.the-variants.{Value, Refused, BadTable}
-use Rattle.expressions.proofs.Limits.{Packable, evaluated-packable}
+use Rattle.expressions.proofs.Limits.{Bounded, evaluated-bounded}
 use Rattle.nosgoludd.specs.Packed.{packed, packedConversion, packedReading, packedCheck, packedFound, packedEvaluation, evaluationCounted}
 
 pub record Unpacks (r number counted place high : ℕ) : Type 0 where
@@ -55,9 +55,9 @@ look-up-unpacks table name =
 
 pub evaluation-unpacks : (text table : List ℕ) (allowance : ℕ)
     → let a = evaluated text table allowance in Unpacks (packedEvaluation a) (Answers.numberOf a) (evaluationCounted a) (Answers.placeOf a) (patternOf a)
-evaluation-unpacks text table allowance = go (evaluated text table allowance) (evaluated-packable text table allowance)
+evaluation-unpacks text table allowance = go (evaluated text table allowance) (evaluated-bounded text table allowance)
   where
-    go : (a : Evaluated) → Packable a → Unpacks (packedEvaluation a) (Answers.numberOf a) (evaluationCounted a) (Answers.placeOf a) (patternOf a)
+    go : (a : Evaluated) → Bounded a → Unpacks (packedEvaluation a) (Answers.numberOf a) (evaluationCounted a) (Answers.placeOf a) (patternOf a)
     go (Value pattern end) small = unpacks 0 0 (end .0) pattern (omega arith) (omega arith) (omega (arith, small .place))
     go (Refused number at) small = unpacks number 0 (at .0) 0 (omega (arith, small .number)) (omega arith) (omega (arith, small .place))
     go (BadTable number at) small = unpacks number 1 (at .0) 0 (omega (arith, small .number)) (omega arith) (omega (arith, small .place))

@@ -5,7 +5,7 @@ use native.Mathlib.Omega.{arith}
 use Rattle.paper.specs.declared.TextPlace.{TextPlace}
 use Rattle.expressions.specs.declared.Evaluated.{Evaluated}
 use Rattle.expressions.specs.declared.Evaluated.the-variants.{Value}
-use Rattle.expressions.proofs.Limits.{Packable, evaluated-packable}
+use Rattle.expressions.proofs.Limits.{Bounded, evaluated-bounded}
 use Rattle.nosgoludd.specs.Packed.{packed, packedEvaluation}
 use borrow.Author.Needs.{needs}
 use Rattle.nosgoludd.proofs.nos_evaluate.Statement.{statement}
@@ -16,10 +16,10 @@ value-packed : (r pattern high : ℕ) (end : TextPlace) (e : Evaluated) → r �
 value-packed r pattern high end e h k v = h ∙ ap (packed 0 0 (end .0)) k ∙ ap packedEvaluation (sym v)
 
 -- every place is small enough to pack
-small : (c : tie.After-evaluate) (r : Evaluated) → c .evaluate .result ≡ r → Packable r
+small : (c : tie.After-evaluate) (r : Evaluated) → c .evaluate .result ≡ r → Bounded r
 small c r known =
     let a = c .before .before .before .args in
-    subst Packable (sym (c .evaluate .ensures) ∙ known) (evaluated-packable (a .text .now) (a .table .now) (a .allowance))
+    subst Bounded (sym (c .evaluate .ensures) ∙ known) (evaluated-bounded (a .text .now) (a .table .now) (a .allowance))
 
 evaluate-requires : tie.Need-evaluate-requires
 evaluate-requires c κs = search needs
