@@ -133,23 +133,66 @@ finished-within t left end left′ e = go (decLt left (lookUps t))
         let split : lookUps t + m ≡ left = omega arith in
         (omega arith, led (ending t) m (sym (enough t m) ∙ ap (run t) split ∙ e))
 
--- an answer does not see how many look-ups are left
-fit-left : (o : Ending) (left left′ need room : ℕ) → fit (with-left left o) need room ≡ fit (with-left left′ o) need room
-fit-left (done end) left left′ need room = refl
-fit-left (failed fault place) left left′ need room = refl
+-- the number that a run stops with, 0 where it finished
+abbrev pub stopNumber : Run → ℕ
+stopNumber (finished end left) = 0
+stopNumber (stopped number place) = number
 
-fit-number : (o : Ending) (left need room : ℕ) → fit (with-left left o) need room .number ≡ allowance-spent → ⊥
-fit-number (done end) left need room =
-    either (λ (a : Answer). a .number ≡ allowance-spent → ⊥) (ltb room need) (λ _. λ e. omega arith) (λ _. λ e. omega arith)
-fit-number (failed fault place) left need room = fault-number fault .1
+-- what is made of a run and does not see how many look-ups are left
+pub record Blind {A : Type 0} (of : Run → A) : Type 0 where
+  pub same : (end left left′ : ℕ) → of (finished end left) ≡ of (finished end left′)
+
+blind-left : {A : Type 0} (of : Run → A) → Blind of → (o : Ending) (left left′ : ℕ) → of (with-left left o) ≡ of (with-left left′ o)
+blind-left of b (done end) left left′ = b .same end left left′
+blind-left of b (failed fault place) left left′ = refl
+
+module _ (t : Trace) where
+  -- a run with look-ups enough goes where the reading leads
+  reaches : {A : Type 0} (of : Run → A) → Blind of → (allowance : ℕ) → lookUps t ≤ allowance → of (run t allowance) ≡ of (with-left 0 (ending t))
+  reaches of b allowance h =
+      let m : ℕ = allowance - lookUps t in
+      let split : lookUps t + m ≡ allowance = omega arith in
+      ap of (ap (run t) (sym split) ∙ enough t m) ∙ blind-left of b (ending t) m 0
+
+  spent-run : (allowance : ℕ) → allowance < lookUps t → stopNumber (run t allowance) ≡ allowance-spent
+  spent-run allowance h = ap stopNumber (too-few t allowance h .is)
+
+  led-number : (o : Ending) → stopNumber (with-left 0 o) ≡ allowance-spent → ⊥
+  led-number (done end) = λ e. omega arith
+  led-number (failed fault place) = fault-number fault .1
+
+  -- a run stops at Allowance spent exactly when the reading reaches one look-up more than allowed before any other refusal
+  pub run-spent : (allowance : ℕ) → (stopNumber (run t allowance) ≡ allowance-spent) ↔ (allowance < lookUps t)
+  run-spent allowance = (λ e. less e (decLt allowance (lookUps t)), spent-run allowance)
+    where
+      less : stopNumber (run t allowance) ≡ allowance-spent → Dec (allowance < lookUps t) → allowance < lookUps t
+      less e (yes p) = p
+      less e (no p) =
+          absurd (led-number (ending t) (sym (reaches stopNumber (record { same = λ end l l′. refl }) allowance (omega arith)) ∙ e))
+
+  -- what is made of any other run stays the same under every larger allowance
+  pub run-more : {A : Type 0} (of : Run → A) → Blind of → (allowance more : ℕ) → (stopNumber (run t allowance) ≡ allowance-spent → ⊥)
+      → of (run t (allowance + more)) ≡ of (run t allowance)
+  run-more of b allowance more n = go (decLt allowance (lookUps t))
+    where
+      go : Dec (allowance < lookUps t) → of (run t (allowance + more)) ≡ of (run t allowance)
+      go (yes p) = absurd (n (spent-run allowance p))
+      go (no p) = reaches of b (allowance + more) (omega arith) ∙ sym (reaches of b allowance (omega arith))
+
+fit-blind : (need room : ℕ) → Blind (λ r. fit r need room)
+fit-blind need room = record { same = λ end l l′. refl }
+
+-- an answer's number is Allowance spent exactly where its run's is
+fit-spent : (r : Run) (need room : ℕ) → (fit r need room .number ≡ allowance-spent) ↔ (stopNumber r ≡ allowance-spent)
+fit-spent (finished end left) need room =
+    either (λ (a : Answer). (a .number ≡ allowance-spent) ↔ (0 ≡ allowance-spent)) (ltb room need)
+    (λ _. (λ e. omega arith, λ e. omega arith)) (λ _. (λ e. omega arith, λ e. omega arith))
+fit-spent (stopped number place) need room = (λ e. e, λ e. e)
 
 module _ (t : Trace) where
   -- the answer where the look-ups are enough
   reading-answer : (allowance room : ℕ) → lookUps t ≤ allowance → answer t allowance room ≡ fit (with-left 0 (ending t)) (length (bytes t)) room
-  reading-answer allowance room h =
-      let m : ℕ = allowance - lookUps t in
-      let split : lookUps t + m ≡ allowance = omega arith in
-      ap (λ r. fit r (length (bytes t)) room) (ap (run t) (sym split) ∙ enough t m) ∙ fit-left (ending t) m 0 (length (bytes t)) room
+  reading-answer allowance room h = reaches t (λ r. fit r (length (bytes t)) room) (fit-blind (length (bytes t)) room) allowance h
 
   -- and where they are not
   spent-answer : (allowance room : ℕ) → allowance < lookUps t → answer t allowance room .number ≡ allowance-spent
@@ -157,23 +200,17 @@ module _ (t : Trace) where
 
   -- Allowance spent comes exactly when the reading reaches one look-up more than allowed before any other refusal
   pub spent-exactly : (allowance room : ℕ) → (answer t allowance room .number ≡ allowance-spent) ↔ (allowance < lookUps t)
-  spent-exactly allowance room = (λ e. less e (decLt allowance (lookUps t)), spent-answer allowance room)
-    where
-      less : answer t allowance room .number ≡ allowance-spent → Dec (allowance < lookUps t) → allowance < lookUps t
-      less e (yes p) = p
-      less e (no p) =
-          absurd
-          (fit-number (ending t) 0 (length (bytes t)) room
-          (sym (ap (λ (a : Answer). a .number) (reading-answer allowance room (omega arith))) ∙ e))
+  spent-exactly allowance room =
+      let f = fit-spent (run t allowance) (length (bytes t)) room in
+      let r = run-spent t allowance in
+      (λ e. r .0 (f .0 e), λ h. f .1 (r .1 h))
 
   -- an answer other than Allowance spent stays the same under every larger allowance
   pub more-allowance : (allowance more room : ℕ) → (answer t allowance room .number ≡ allowance-spent → ⊥)
       → answer t (allowance + more) room ≡ answer t allowance room
-  more-allowance allowance more room n = go (decLt allowance (lookUps t))
-    where
-      go : Dec (allowance < lookUps t) → answer t (allowance + more) room ≡ answer t allowance room
-      go (yes p) = absurd (n (spent-answer allowance room p))
-      go (no p) = reading-answer (allowance + more) room (omega arith) ∙ sym (reading-answer allowance room (omega arith))
+  more-allowance allowance more room n =
+      run-more t (λ r. fit r (length (bytes t)) room) (fit-blind (length (bytes t)) room) allowance more
+      (λ e. n (fit-spent (run t allowance) (length (bytes t)) room .1 e))
 
 -- the reading succeeds
 abbrev pub Succeeds : Trace → Type 0

@@ -15,7 +15,9 @@ use Rattle.variables.specs.declared.Found.{Found}
 use Rattle.gs.proofs.translate.Reads as translate
 use Rattle.gs.specs.declared.Translated.{Translated}
 use Rattle.gs.specs.declared.flags.Flags.{Flags}
-use Rattle.promises.specs.Allowed.{Converts, Reads, Checks, LooksUp, Translates}
+use Rattle.expressions.proofs.evaluate.Reads as evaluate
+use Rattle.expressions.specs.declared.Evaluated.{Evaluated}
+use Rattle.promises.specs.Allowed.{Converts, Reads, Checks, LooksUp, Translates, Evaluates}
 
 pub convert-allows : (κs : Lfts 1) (call value : ℕ) (buf after : RefT (List ℕ)) (r : Converted)
     → convert.Learnt κs (call, (value, (buf, tt))) r (call, (value, (after, tt))) → Converts call value (now buf) r (now after)
@@ -37,3 +39,7 @@ pub translate-allows : (κs : Lfts 3) (text table : RefT (List ℕ)) (flags : Fl
     → translate.Learnt κs (text, (table, (flags, (allowance, (out, tt))))) r (text, (table, (flags, (allowance, (after, tt)))))
     → Translates (now text) (now table) (flags .0) allowance (now out) r (now after)
 translate-allows κs text table flags allowance out after r learnt = record { answer = learnt .0; buffer = learnt .1 }
+
+pub evaluate-allows : (κs : Lfts 2) (text table : RefT (List ℕ)) (allowance : ℕ) (r : Evaluated)
+    → evaluate.Learnt κs (text, (table, (allowance, tt))) r (text, (table, (allowance, tt))) → Evaluates (now text) (now table) allowance r
+evaluate-allows κs text table allowance r learnt = record { answer = learnt }

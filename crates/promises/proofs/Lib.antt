@@ -6,3 +6,4 @@ pub mod ConversionsKept
 pub mod ReadingsKept
 pub mod LookupsKept
 pub mod TranslationsKept
+pub mod EvaluationsKept

@@ -1,7 +1,7 @@
 -- What `translate` promises is kept: demand 3 is that of every trace, at the trace of the reading.
 use mathlib.Core.Path.{_≡_, refl, ap, sym, subst, subst₂, _∙_}
 use mathlib.Core.Bool.{Bool, true, false, cond}
-use mathlib.Core.List.{List, _++_}
+use mathlib.Core.List.{List, _++_, Memᴰ·cast}
 use Prim.Native.Nat.{ℕ, _+_, _-_, _≤_, _<_, min}
 use native.Mathlib.Omega.{arith}
 use lib.Dec.{eqb}
@@ -17,9 +17,10 @@ use Rattle.variables.specs.declared.Checked.the-variants.{Refused as Unsound}
 use Rattle.paper.specs.declared.RecordPlace.{RecordPlace}
 use Rattle.gs.specs.Translations.{readingOf, translatedBy, translatedOver, leftBy, translated, outAfter, inPaper}
 use Rattle.gs.specs.declared.Translated.{Translated}
+use Rattle.gs.proofs.Limits.{translated-listed}
 use Rattle.gs.specs.declared.Translated.the-variants.{Written, Refused, BadTable}
 use Rattle.promises.specs.Allowed.{Translates}
-use Rattle.promises.specs.Translations.{OneAnswer, Kept, Bytes, Sound, ByReading, Unread, LargerRoom, LargerAllowance, NoRoom, Spent}
+use Rattle.promises.specs.Translations.{OneAnswer, Refusals, Kept, Bytes, Sound, ByReading, Unread, LargerRoom, LargerAllowance, NoRoom, Spent}
 
 pub one-answer : OneAnswer
 one-answer text table flags allowance out after after′ r r′ c c′ = (c .answer ∙ sym (c′ .answer), c .buffer ∙ sym (c′ .buffer))
@@ -34,6 +35,10 @@ kept-by : (r : Translated) (given out : List ℕ) → (inPaper r .number ≡ 0 �
 kept-by (Written end need free) given out n = absurd (n refl)
 kept-by (Refused number at need free) given out n = refl
 kept-by (BadTable number at free) given out n = refl
+
+pub refusals : Refusals
+refusals text table flags allowance out after r bs cs c =
+    Memᴰ·cast (ap (λ r. inPaper r .number) (c .answer)) (translated-listed text table flags allowance (length out) bs cs)
 
 pub kept : Kept
 kept text table flags allowance out after r c n =

@@ -5,6 +5,7 @@ use mathlib.Core.List.{List, [], _∷_, _++_}
 use Prim.Native.Nat.{ℕ, _≤_, _<_}
 use native.Mathlib.Omega.{arith}
 use lib.Dec.{lit≤, lit<}
+use lib.IntN.{pos, negℤ}
 use lib.ListN.{length, drop}
 use Rattle.paper.specs.Answers.{Answer}
 use Rattle.paper.specs.Refusals.{bad-base}
@@ -25,8 +26,14 @@ use Rattle.gs.specs.Symbols.{symbolAt, active, barred, code, coded, punctuation
 use Rattle.gs.specs.Readings.{named, content, symbolic, following, whole, expands}
 use Rattle.gs.specs.Translations as Translations
 use Rattle.gs.specs.Translations.{readingOf, leftBy, translated, outAfter}
-use Rattle.promises.specs.Allowed.{Converts, Reads, Translates}
-use Rattle.promises.specs.Examples.{Row, writes, lacks, reads, refuses, translates, Holds, All, examples}
+use Rattle.expressions.specs.Tokens.{wordByte, wordToken, faultOf, single, fromLess, fromGreater, symbolAt as signAt, startingAt}
+use Rattle.expressions.specs.Trees.{following as chained, operandAt, whole as entireTree}
+use Rattle.expressions.specs.Values.{signed, sum, difference, product, quotient, remainder}
+use Rattle.expressions.specs.Evaluations.{divided}
+use Rattle.expressions.specs.Answers as Answers
+use Rattle.expressions.specs.Answers.{evaluated}
+use Rattle.promises.specs.Allowed.{Converts, Reads, Translates, Evaluates}
+use Rattle.promises.specs.Examples.{Row, writes, lacks, reads, refuses, translates, evaluates, Holds, All, examples}
 use Rattle.paper.specs.Texts.{bytes}
 use Rattle.promises.proofs.Outcomes.{Outcome, unknown, short, whole as entire, one-form, not-both, outcome}
 
@@ -123,6 +130,14 @@ p13 out after r long c = (
   c .buffer ∙ ap (λ n. leftBy (translated (bytes "<A>b") (86 ∷ 82 ∷ 0 ∷ 1 ∷ 1 ∷ 97 ∷ 120 ∷ []) 0 1 n) (Traces.bytes (readingOf (bytes "<A>b") (86 ∷ 82 ∷ 0 ∷ 1 ∷ 1 ∷ 97 ∷ 120 ∷ []) 0)) out) long,
 )
 
+p14 : Holds (evaluates "2147483647+1" [] 0 (negℤ (pos 2147483648)) 12)
+unfolding evaluated checked scanned startingAt wordToken wordByte signAt single fromLess fromGreater faultOf chained operandAt entireTree divided signed sum difference product quotient remainder reading numbered behind judged digit
+p14 r c = (ap Answers.numberOf (c .answer), ap Answers.valueOf (c .answer), ap Answers.placeOf (c .answer))
+
+p15 : Holds (evaluates "-7 MOD 2" [] 0 (negℤ (pos 1)) 8)
+unfolding evaluated checked scanned startingAt wordToken wordByte signAt single fromLess fromGreater faultOf chained operandAt entireTree divided signed sum difference product quotient remainder reading numbered behind judged digit
+p15 r c = (ap Answers.numberOf (c .answer), ap Answers.valueOf (c .answer), ap Answers.placeOf (c .answer))
+
 -- the table, whole
 pub worked-examples : All examples
-worked-examples = (p1, (p2, (p3, (p4, (p5, (p6, (p7, (p8, (p9, (p10, (p11, (p12, (p13, tt)))))))))))))
+worked-examples = (p1, (p2, (p3, (p4, (p5, (p6, (p7, (p8, (p9, (p10, (p11, (p12, (p13, (p14, (p15, tt)))))))))))))))

@@ -13,6 +13,8 @@ use Rattle.variables.specs.declared.Checked.{Checked}
 use Rattle.variables.specs.declared.Found.{Found}
 use Rattle.gs.specs.Translations.{translated, outAfter}
 use Rattle.gs.specs.declared.Translated.{Translated}
+use Rattle.expressions.specs.Answers.{evaluated}
+use Rattle.expressions.specs.declared.Evaluated.{Evaluated}
 
 -- `convert`
 pub record Converts (call value : ℕ) (buf : List ℕ) (r : Converted) (after : List ℕ) : Type 0 where
@@ -35,3 +37,7 @@ pub record LooksUp (table name : List ℕ) (r : Found) : Type 0 where
 pub record Translates (text table : List ℕ) (flags allowance : ℕ) (out : List ℕ) (r : Translated) (after : List ℕ) : Type 0 where
   pub answer : r ≡ translated text table flags allowance (length out)
   pub buffer : after ≡ outAfter text table flags allowance out
+
+-- `evaluate`
+pub record Evaluates (text table : List ℕ) (allowance : ℕ) (r : Evaluated) : Type 0 where
+  pub answer : r ≡ evaluated text table allowance

@@ -4,6 +4,7 @@ use mathlib.Core.Bool.{false}
 use mathlib.Core.List.{List, [], _∷_, _++_}
 use Prim.Native.Nat.{ℕ}
 use Prim.Native.String.{String}
+use lib.IntN.{ℤ, pos, negℤ}
 use lib.ListN.{length, drop}
 use Rattle.paper.specs.Refusals.{no-room, bad-base}
 use Rattle.numbers.specs.Strings.{inPaper}
@@ -12,7 +13,9 @@ use Rattle.reader.specs.Reading.{numberOf, placeOf, valueOf}
 use Rattle.reader.specs.declared.Reading.{Reading}
 use Rattle.gs.specs.Translations as Translations
 use Rattle.gs.specs.declared.Translated.{Translated}
-use Rattle.promises.specs.Allowed.{Converts, Reads, Translates}
+use Rattle.expressions.specs.Answers as Answers
+use Rattle.expressions.specs.declared.Evaluated.{Evaluated}
+use Rattle.promises.specs.Allowed.{Converts, Reads, Translates, Evaluates}
 use Rattle.paper.specs.Texts.{bytes}
 
 pub data Row : Type 0 where
@@ -26,6 +29,8 @@ pub data Row : Type 0 where
   refuses : (text : String) (number place : ℕ) → Row
   -- a text, a table, an allowance and a room, no flags: the bytes given, and the place of the text's end
   translates : (text : String) (table : List ℕ) (allowance room : ℕ) (given : List ℕ) (end free : ℕ) → Row
+  -- a text, a table and an allowance: the value, and the place of the text's end
+  evaluates : (text : String) (table : List ℕ) (allowance : ℕ) (value : ℤ) (end : ℕ) → Row
 
 abbrev pub Holds : Row → Type 0
 Holds (writes call value room string offset need free) =
@@ -41,6 +46,9 @@ Holds (refuses text number place) =
 Holds (translates text table allowance room given end free) =
     (out after : List ℕ) (r : Translated) → length out ≡ room → Translates (bytes text) table 0 allowance out r after
     → (Translations.inPaper r ≡ record { number = 0; place = end; need = length given; free = free }) × (after ≡ given ++ drop (length given) out)
+Holds (evaluates text table allowance value end) =
+    (r : Evaluated) → Evaluates (bytes text) table allowance r
+    → (Answers.numberOf r ≡ 0) × (Answers.valueOf r ≡ value) × (Answers.placeOf r ≡ end)
 
 abbrev pub All : List Row → Type 0
 All [] = Unit {0}
@@ -74,4 +82,8 @@ examples =
     ∷ translates "<321>" [] 0 1 (bytes "A") 5 0
     -- P13
     ∷ translates "<A>b" (86 ∷ 82 ∷ 0 ∷ 1 ∷ 1 ∷ 97 ∷ 120 ∷ []) 1 2 (bytes "xb") 4 0
+    -- P14
+    ∷ evaluates "2147483647+1" [] 0 (negℤ (pos 2147483648)) 12
+    -- P15
+    ∷ evaluates "-7 MOD 2" [] 0 (negℤ (pos 1)) 8
     ∷ []

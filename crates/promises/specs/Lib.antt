@@ -5,3 +5,4 @@ pub mod Conversions
 pub mod Readings
 pub mod Lookups
 pub mod Translations
+pub mod Evaluations

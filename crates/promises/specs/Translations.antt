@@ -1,20 +1,24 @@
 -- What `translate` promises, over what its contract allows. Demand 3 is stated over the trace of the paper's own reading.
 use mathlib.Core.Path.{_≡_}
-use mathlib.Core.List.{List, _++_}
+use mathlib.Core.List.{List, _++_, List·Memᴰ}
 use mathlib.Core.Logic.{_↔_}
 use Prim.Native.Nat.{ℕ, _+_, _≤_, _<_}
-use lib.ListN.{length, drop}
+use lib.ListN.{length, getD, drop}
 use Rattle.paper.specs.Answers.{Answer, Grown}
 use Rattle.paper.specs.Refusals.{no-room, allowance-spent, over-length, longest}
 use Rattle.paper.specs.Traces.{Trace, bytes, answer, Ending, done, ending, lookUps, allowed}
 use Rattle.variables.specs.Tables.{checked}
 use Rattle.variables.specs.declared.Checked.the-variants.{Good, Refused as Unsound}
-use Rattle.gs.specs.Translations.{readingOf, inPaper}
+use Rattle.gs.specs.Translations.{readingOf, inPaper, translateNumbers}
 use Rattle.paper.specs.declared.TextPlace.{TextPlace}
 use Rattle.paper.specs.declared.RecordPlace.{RecordPlace}
 use Rattle.gs.specs.declared.Translated.{Translated}
 use Rattle.gs.specs.declared.Translated.the-variants.{Written}
 use Rattle.promises.specs.Allowed.{Translates}
+
+-- what a lent slice holds
+abbrev pub AllBytes : List ℕ → Type 0
+AllBytes s = (k : ℕ) → getD s k 0 ≤ 255
 
 -- one answer and one content of the buffer
 abbrev pub OneAnswer : Type 0
@@ -22,7 +26,13 @@ OneAnswer =
     (text table : List ℕ) (flags allowance : ℕ) (out after after′ : List ℕ) (r r′ : Translated)
     → Translates text table flags allowance out r after → Translates text table flags allowance out r′ after′ → (r ≡ r′) × (after ≡ after′)
 
--- Demand 1: a refusal changes no byte
+-- Demand 1: written, or one of the listed refusals; bytes are at most 255
+abbrev pub Refusals : Type 0
+Refusals =
+    (text table : List ℕ) (flags allowance : ℕ) (out after : List ℕ) (r : Translated) → AllBytes text → AllBytes table
+    → Translates text table flags allowance out r after → List·Memᴰ (inPaper r .number) translateNumbers
+
+-- a refusal changes no byte
 abbrev pub Kept : Type 0
 Kept =
     (text table : List ℕ) (flags allowance : ℕ) (out after : List ℕ) (r : Translated) → Translates text table flags allowance out r after

@@ -1,0 +1,92 @@
+-- What `evaluate` promises is kept: demand 3 is that of every trace, at the trace of the evaluation.
+use mathlib.Core.Path.{_≡_, refl, ap, sym, subst, _∙_}
+use mathlib.Core.List.{List, Memᴰ·cast}
+use Prim.Native.Nat.{ℕ, _+_, _-_, _≤_, _<_, min}
+use native.Mathlib.Decide.{decLt}
+use native.Mathlib.Omega.{arith}
+use lib.ListN.{length}
+use Rattle.paper.specs.Refusals.{allowance-spent, over-length, longest}
+use Rattle.paper.specs.Traces.{Trace, Run, finished, stopped, run, lookUps, allowed}
+use Rattle.paper.specs.declared.TextPlace.{TextPlace}
+use Rattle.paper.specs.declared.RecordPlace.{RecordPlace}
+use Rattle.paper.proofs.Choice.{below, not-below}
+use Rattle.paper.proofs.DemandThree.{stopNumber, run-more, run-spent}
+use Rattle.variables.specs.Tables.{checked}
+use Rattle.variables.specs.declared.Checked.{Checked}
+use Rattle.variables.specs.declared.Checked.the-variants.{Good, Refused as Unsound}
+use Rattle.expressions.specs.Answers.{readingOf, valueIn, refusedAt, evaluatedBy, evaluatedOver, evaluated, numberOf}
+use Rattle.expressions.specs.declared.Evaluated.{Evaluated}
+use Rattle.expressions.specs.declared.Evaluated.the-variants.{Value, Refused, BadTable}
+use Rattle.expressions.proofs.Limits.{evaluated-bounded}
+use Rattle.promises.specs.Allowed.{Evaluates}
+use Rattle.promises.specs.Translations.{Sound}
+use Rattle.promises.specs.Evaluations.{OneAnswer, Refusals, Valued, ByReading, Unread, LargerAllowance, Spent}
+
+pub one-answer : OneAnswer
+one-answer text table allowance r r′ c c′ = c .answer ∙ sym (c′ .answer)
+
+pub refusals : Refusals
+refusals text table allowance r c = Memᴰ·cast (ap numberOf (c .answer)) (evaluated-bounded text table allowance .listed)
+
+module _ (text table : List ℕ) (allowance : ℕ) where
+  over : (d : Checked) → length text ≤ longest → checked table ≡ d
+      → evaluatedOver d (readingOf text table) allowance (valueIn text table) ≡ evaluated text table allowance
+  unfolding evaluated
+  over d short e = not-below longest (length text) _ _ short (ap (λ k. evaluatedOver k (readingOf text table) allowance (valueIn text table)) (sym e))
+
+  too-long : longest < length text → refusedAt over-length 0 ≡ evaluated text table allowance
+  unfolding evaluated
+  too-long long = below longest (length text) _ _ long refl
+
+pub by-reading : ByReading
+by-reading text table allowance r s c = c .answer ∙ sym (over text table allowance (Good (s .count)) (s .short) (s .good))
+
+pub unread : Unread
+unread text table allowance r c = (
+  λ long. c .answer ∙ sym (too-long text table allowance long),
+  λ number at short bad. c .answer ∙ sym (over text table allowance (Unsound number at) short bad),
+)
+
+-- an accepted value came from a run that finished
+value-by : (r : Run) (value pattern : ℕ) (end : TextPlace) → evaluatedBy r value ≡ Value pattern end → pattern ≡ value
+value-by (finished e left) value pattern end h = cc
+value-by (stopped number place) value pattern end h = let z : _≡_ {A = ℕ} 0 1 = cc in absurd (omega arith)
+
+pub valued : Valued
+valued text table allowance r c pattern end e = go (checked table) refl (decLt longest (length text))
+  where
+    whole : evaluated text table allowance ≡ Value pattern end
+    whole = sym (c .answer) ∙ e
+
+    go : (d : Checked) → checked table ≡ d → Dec (longest < length text) → pattern ≡ valueIn text table
+    go d q (yes long) = let h = too-long text table allowance long ∙ whole in let z : _≡_ {A = ℕ} 0 1 = cc in absurd (omega arith)
+    go (Good count) q (no short) =
+        value-by (run (readingOf text table) (allowed allowance)) (valueIn text table) pattern end (over text table allowance (Good count) (omega arith) q ∙ whole)
+    go (Unsound number at) q (no short) =
+        let h = over text table allowance (Unsound number at) (omega arith) q ∙ whole in
+        let z : _≡_ {A = ℕ} 0 1 = cc in
+        absurd (omega arith)
+
+-- an answer's number is its run's
+number-by : (r : Run) (value : ℕ) → numberOf (evaluatedBy r value) ≡ stopNumber r
+number-by (finished end left) value = refl
+number-by (stopped number place) value = refl
+
+pub larger-allowance : LargerAllowance
+larger-allowance text table allowance allowance′ r r′ s more c c′ n =
+    let t = readingOf text table in
+    let v = valueIn text table in
+    let e = by-reading text table allowance r s c in
+    let e′ = by-reading text table allowance′ r′ s c′ in
+    let up : allowed allowance + (allowed allowance′ - allowed allowance) ≡ allowed allowance′ = omega arith in
+    e′ ∙ ap (λ l. evaluatedBy (run t l) v) (sym up)
+    ∙ run-more t (λ q. evaluatedBy q v) (record { same = λ end l l′. refl }) (allowed allowance) (allowed allowance′ - allowed allowance)
+    (λ h. n (ap numberOf e ∙ number-by (run t (allowed allowance)) v ∙ h))
+    ∙ sym e
+
+pub spent-comes : Spent
+spent-comes text table allowance r s c =
+    let t = readingOf text table in
+    let n = ap numberOf (by-reading text table allowance r s c) ∙ number-by (run t (allowed allowance)) (valueIn text table) in
+    let exactly = run-spent t (allowed allowance) in
+    (λ h. exactly .0 (sym n ∙ h), λ h. n ∙ exactly .1 h)
