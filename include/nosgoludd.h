@@ -1,4 +1,5 @@
-/* Nosgoludd: numbers to strings, numbers read from texts, variables in a table, and texts that name them, whole or refused.
+/* Nosgoludd: numbers to strings, numbers read from texts, variables in a table, texts that name them, and expressions, whole or
+ * refused.
  *
  * An office certifies organic farms from old diaries. Once a quantity fell across the end of a 1,048,576-byte buffer, the
  * conversion cut it, and the rows behind it were never seen. So a conversion or a translation comes whole, or it is refused and
@@ -18,7 +19,8 @@
  *   bits 8 to 15    nos_counted   what the place is counted in: 1 the table; 0 the text, for nos_convert buf
  *   bits 16 to 31   nos_place     the place
  *   bits 32 to 63   nos_need      nos_convert and nos_translate: the need
- *                   nos_value     nos_read_unsigned: the value; nos_check_table: the number of records; nos_look_up: the kind
+ *                   nos_value     nos_read_unsigned: the value; nos_check_table: the number of records; nos_look_up: the kind;
+ *                                 nos_evaluate: the value's pattern, which nos_signed gives as a number
  *
  * &D0 is 0xD0, as the RISC OS manual writes it.
  */
@@ -33,7 +35,8 @@ extern "C" {
 #endif
 
 /* One numbering for the whole library. nos_convert refuses by 14 and 1, nos_read_unsigned by 18, 3, 2, 4, 5 and 6, nos_check_table
- * by 18 and 13, nos_look_up by 18, 13 and 10, nos_translate by 18, 13, 9, 4, 10, 11, 12, 7, 8 and 1, and none by 15, 16 or 17. */
+ * by 18 and 13, nos_look_up by 18, 13 and 10, nos_translate by 18, 13, 9, 4, 10, 11, 12, 7, 8 and 1, nos_evaluate by 18, 13, 15, 11,
+ * 2, 3, 4, 10, 17, 12 and 16. */
 enum nos_refusal {
     NOS_ACCEPTED = 0,
     NOS_NO_ROOM = 1,
@@ -221,11 +224,55 @@ uint64_t nos_look_up(const uint8_t *table, size_t length, const uint8_t *name, s
 uint64_t nos_translate(const uint8_t *text, size_t length, const uint8_t *table, size_t table_length, uint32_t flags,
                        uint32_t allowance, uint8_t *out, size_t room);
 
+/* Evaluates an expression of signed 32-bit numbers.
+ *
+ * Tokens, longest first, the spaces (byte 32 alone) before each ignored: an operator, a number, a name, a bracket. A number starts
+ * with "&" or a decimal digit and is read as by nos_read_unsigned, without whole or limit, as a 32-bit pattern. A name starts with a
+ * letter and goes on with letters, digits, "_" and "$". MOD, AND, OR, EOR and NOT in capitals are operators. The text ends at the
+ * first byte 0, 10 or 13, or at its length.
+ *
+ *   operators, tightest first, each level from the left; a bracketed part is a whole expression again
+ *   NOT - +                         before one operand. NOT turns every bit; - is 0 less the value
+ *   * / MOD                         / drops the fraction toward zero, MOD has the sign of its left side
+ *   + -                             products, sums and differences are taken modulo 2 to the 32
+ *   = <> < > <= >= << >> >>>        comparisons are signed and give -1 or 0. >> brings the sign in from the left, >>> zeros; an amount
+ *                                   is unsigned, and one of 32 or more gives 0, for >> of a negative number -1
+ *   AND                             bit by bit, as OR and EOR; neither side is ever skipped
+ *   OR EOR
+ * The lowest number over -1 gives itself, and its MOD -1 is 0.
+ *
+ * A name must be an integer variable of the table, and takes one look-up out of the allowance; over 1,024 counts as 1,024.
+ *
+ *   accepted   the value's 32-bit pattern, and the place of the text's end, behind all spaces
+ *   refused    value 0. The first of these that holds:
+ *              18 NOS_OVER_LENGTH       the text is longer than 65,535 bytes; place 0
+ *              18 NOS_OVER_LENGTH       the table is; place 0, counted in the table
+ *              13 NOS_BAD_TABLE         as by nos_check_table, the place counted in the table
+ *                 then the first of these that the tokens meet from the left, wherever it stands:
+ *              15 NOS_BAD_EXPRESSION    a token that cannot stand there, a byte that starts none, the end too early; its place
+ *              11 NOS_TOO_DEEP          the 17th unary operator or bracket over one operand; its place
+ *               2 NOS_NO_DIGIT          as by nos_read_unsigned, and so 3 and 4
+ *               3 NOS_BAD_BASE
+ *               4 NOS_TOO_BIG
+ *                 then the first of these that the evaluation meets, operands from the left and each operator behind its operands:
+ *              10 NOS_UNKNOWN_NAME      no record has an equal name; the name
+ *              17 NOS_NOT_AN_INTEGER    a string or a macro; the name
+ *              12 NOS_ALLOWANCE_SPENT   no look-up is left for the name; the name
+ *              16 NOS_ZERO_DIVISOR      the right side of / or MOD is zero; the operator
+ *
+ *   2147483647+1   -2147483648 at 12       1/0+(     refused 15 at 5, though 1/0 stands before it
+ *   -7 MOD 2       -1 at 8                 1/0       refused 16 at 1
+ *   1=1=1          0 at 5                  12abc     refused 15 at 2
+ *   -8>>1          -4 at 5                 &         refused 2 at 1
+ */
+uint64_t nos_evaluate(const uint8_t *text, size_t length, const uint8_t *table, size_t table_length, uint32_t allowance);
+
 static inline uint32_t nos_number(uint64_t answer) { return (uint32_t)(answer & 0xFF); }
 static inline uint32_t nos_counted(uint64_t answer) { return (uint32_t)(answer >> 8 & 0xFF); }
 static inline size_t nos_place(uint64_t answer) { return (size_t)(answer >> 16 & 0xFFFF); }
 static inline size_t nos_need(uint64_t answer) { return (size_t)(answer >> 32); }
 static inline uint32_t nos_value(uint64_t answer) { return (uint32_t)(answer >> 32); }
+static inline int64_t nos_signed(uint64_t answer) { return (int64_t)nos_value(answer) - (nos_value(answer) >> 31 ? 4294967296 : 0); }
 
 #ifdef __cplusplus
 }
