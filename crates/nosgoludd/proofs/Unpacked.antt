@@ -13,12 +13,18 @@ use Rattle.reader.specs.Reading.{reading}
 use Rattle.reader.proofs.Bounds.{reading-bounded}
 use Rattle.variables.specs.Tables.{checked, lookedUp, numberOf, placeOf, countOf, foundNumber, foundPlace, foundKind}
 use Rattle.variables.proofs.Bounds.{checked-bounded, looked-up-bounded}
+use lib.ListN.{getD}
+use Rattle.gs.specs.Translations as Translations
+use Rattle.gs.specs.Translations.{translated}
+use Rattle.gs.specs.declared.Translated.{Translated}
+use Rattle.gs.specs.declared.Translated.the-variants.{Written, Refused as Rejected, BadTable as BadRecord}
+use Rattle.gs.proofs.Limits.{translated-packable}
 use Rattle.expressions.specs.Answers as Answers
 use Rattle.expressions.specs.Answers.{evaluated, patternOf}
 use Rattle.expressions.specs.declared.Evaluated.{Evaluated}
 use Rattle.expressions.specs.declared.Evaluated.the-variants.{Value, Refused, BadTable}
 use Rattle.expressions.proofs.Limits.{Bounded, evaluated-bounded}
-use Rattle.nosgoludd.specs.Packed.{packed, packedConversion, packedReading, packedCheck, packedFound, packedEvaluation, evaluationCounted}
+use Rattle.nosgoludd.specs.Packed.{packed, packedConversion, packedReading, packedCheck, packedFound, packedTranslation, countedIn, packedEvaluation, evaluationCounted}
 
 pub record Unpacks (r number counted place high : ℕ) : Type 0 where
   pub number-is : r % 256 ≡ number
@@ -61,3 +67,16 @@ evaluation-unpacks text table allowance = go (evaluated text table allowance) (e
     go (Value pattern end) small = unpacks 0 0 (end .0) pattern (omega arith) (omega arith) (omega (arith, small .place))
     go (Refused number at) small = unpacks number 0 (at .0) 0 (omega (arith, small .number)) (omega arith) (omega (arith, small .place))
     go (BadTable number at) small = unpacks number 1 (at .0) 0 (omega (arith, small .number)) (omega arith) (omega (arith, small .place))
+
+pub translation-unpacks : (text table : List ℕ) (flags allowance room : ℕ) → ((k : ℕ) → getD text k 0 ≤ 255) → ((k : ℕ) → getD table k 0 ≤ 255)
+    → let r = translated text table flags allowance room in
+    Unpacks (packedTranslation r) (Translations.inPaper r .number) (countedIn r) (Translations.inPaper r .place) (Translations.inPaper r .need)
+translation-unpacks text table flags allowance room bs cs =
+    let r = translated text table flags allowance room in
+    let small = translated-packable text table flags allowance room bs cs in
+    unpacks _ (countedIn r) _ _ (omega (arith, small .number)) (counted r) (omega (arith, small .place))
+  where
+    counted : (r : Translated) → countedIn r ≤ 255
+    counted (Written end need free) = omega arith
+    counted (Rejected number at need free) = omega arith
+    counted (BadRecord number at free) = omega arith
