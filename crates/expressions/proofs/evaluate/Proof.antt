@@ -2,6 +2,7 @@
 use mathlib.Core.Path.{_≡_, refl, ap, sym, _∙_}
 use mathlib.Core.List.{List}
 use Prim.Native.Nat.{ℕ, _≤_, _<_}
+use native.Mathlib.Omega.{arith}
 use lib.ListN.{length}
 use Rattle.paper.specs.Refusals.{over-length, longest}
 use Rattle.paper.specs.Traces.{run}
@@ -29,7 +30,7 @@ refused-requires : tie.Need-refused-requires
 refused-requires c κs = search needs
 
 returns : tie.Need-returns
-returns c = c .refused .ensures ∙ too-long (c .before .before .before .before .args .text .now) (c .before .before .before .before .args .table .now) (c .before .before .before .before .args .allowance) (c .before .if1 .taken)
+returns c = c .refused .ensures ∙ too-long (c .before .before .before .before .args .text .now) (c .before .before .before .before .args .table .now) (c .before .before .before .before .args .allowance) (omega arith)
 
 check-table-requires : tie.Need-check-table-requires
 check-table-requires c κs = search needs
@@ -47,12 +48,12 @@ evaluate-over-requires : tie.Need-evaluate-over-requires
 evaluate-over-requires c κs = search needs
 
 returns-2 : tie.Need-returns-2
-returns-2 c = over (c .before .before .before .before .before .before .before .args .text .now) (c .before .before .before .before .before .before .before .args .table .now) (c .before .before .before .before .before .before .before .args .allowance) _ (c .before .before .before .before .if1 .left) (sym (c .before .before .before .check-table .ensures) ∙ c .before .number .given .1)
+returns-2 c = over (c .before .before .before .before .before .before .before .args .text .now) (c .before .before .before .before .before .before .before .args .table .now) (c .before .before .before .before .before .before .before .args .allowance) _ (omega arith) (sym (c .before .before .before .check-table .ensures) ∙ c .before .number .given .1)
 
 returns-3 : tie.Need-returns-3
 returns-3 c = c .evaluate-over .ensures
     ∙ ap (λ n. evaluatedBy (run (readingOf (c .before .before .before .before .before .before .before .before .args .text .now) (c .before .before .before .before .before .before .before .before .args .table .now)) n) (valueIn (c .before .before .before .before .before .before .before .before .args .text .now) (c .before .before .before .before .before .before .before .before .args .table .now))) (c .before .cap .ensures .0)
-    ∙ over (c .before .before .before .before .before .before .before .before .args .text .now) (c .before .before .before .before .before .before .before .before .args .table .now) (c .before .before .before .before .before .before .before .before .args .allowance) _ (c .before .before .before .before .before .if1 .left) (sym (c .before .before .before .before .check-table .ensures) ∙ c .before .before .enum-told .given .1)
+    ∙ over (c .before .before .before .before .before .before .before .before .args .text .now) (c .before .before .before .before .before .before .before .before .args .table .now) (c .before .before .before .before .before .before .before .before .args .allowance) _ (omega arith) (sym (c .before .before .before .before .check-table .ensures) ∙ c .before .before .enum-told .given .1)
 
 pub evaluate-spec : {M : Type 1} → statement M
 evaluate-spec =

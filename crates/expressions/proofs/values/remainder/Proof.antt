@@ -47,6 +47,10 @@ rest c = c .before .size .result % c .size2 .result
 rest-fits : (c : tie.After-size2) → rest c < 4294967296
 rest-fits c = omega (arith, mod-le (c .before .size .result) (c .size2 .result))
 
+-- the sign is the left side's
+negative : (c : tie.After-is-negative) → c .is-negative .result ≡ ltZ (signed (c .before .before .before .before .args .l)) (pos 0)
+negative c = c .is-negative .ensures
+
 by-sizes : (c : tie.After-is-negative) (below : Bool) → c .is-negative .result ≡ below
     → remainder (c .before .before .before .before .args .l) (c .before .before .before .before .args .r)
     ≡ wrapped (cond below (negℤ (pos (rest (c .before)))) (pos (rest (c .before))))
@@ -54,7 +58,7 @@ unfolding remainder
 by-sizes c below e =
     let s = c .before in
     let a = s .before .before .before .args in
-    rw (sized (signed (a .l)) (signed (a .r)), ← s .before .size .ensures, ← s .size2 .ensures, ← c .is-negative .ensures, e)
+    rw (sized (signed (a .l)) (signed (a .r)), ← s .before .size .ensures, ← s .size2 .ensures, ← negative c, e)
 
 returns-2 : tie.Need-returns-2
 returns-2 c =
