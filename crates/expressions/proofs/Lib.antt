@@ -7,3 +7,4 @@ pub mod Joins
 pub mod Chains
 pub mod Operands
 pub mod Limits
+pub mod Orders

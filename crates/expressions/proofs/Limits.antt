@@ -1,6 +1,6 @@
 -- How far the numbers of an evaluation go: every place lies in the text, and every refusal is a listed one.
 use mathlib.Core.Bool.{cond, true, false, _&&_}
-use mathlib.Core.List.{List, List·Memᴰ, List·Memᴰ·head as head, List·Memᴰ·tail as tail}
+use mathlib.Core.List.{List, List·Memᴰ, Memᴰ·append-left, List·Memᴰ·head as head}
 use mathlib.Core.Path.{_≡_, refl, sym, ap, subst, _∙_}
 use Prim.Native.Nat.{ℕ, zero, suc, _+_, _<_, _≤_}
 use native.Mathlib.Omega.{arith}
@@ -22,7 +22,7 @@ use Rattle.reader.specs.Reading.{reading}
 use Rattle.reader.specs.declared.Reading.{Reading}
 use Rattle.reader.specs.declared.Reading.the-variants.{Value, Refused}
 use Rattle.variables.specs.Records.{sameBytes}
-use Rattle.variables.specs.Tables.{checked, checkNumbers}
+use Rattle.variables.specs.Tables.{checked}
 use Rattle.variables.specs.Names.{Meaning, unknown, string-of, integer-of, macro-of, namesOf}
 use Rattle.variables.specs.declared.Checked.{Checked}
 use Rattle.variables.specs.declared.Checked.the-variants.{Good, Refused as Unsound}
@@ -31,7 +31,7 @@ use Rattle.expressions.specs.Operators.{levelOf, loosest, standsAlone, d
 use Rattle.expressions.specs.Tokens.{letter, wordToken, faultOf, numberBy, single, fromLess, fromGreater, symbolAt, numeral, startingAt, tokenAt}
 use Rattle.expressions.specs.Trees.{Tree, constant, variable, unary, binary, Parsed, tree, wrong, bindingBy, binding, joined, covered, extended, closedBy, wholeBy, Deeper, following, levelAt, closed, operandBy, deepest, oneDeeper, startedIn, operandAt, ended, whole}
 use Rattle.expressions.specs.Evaluations.{named, divided, valueOf, steps, evaluation}
-use Rattle.expressions.specs.Answers.{readingOf, valueIn, evaluatedBy, evaluatedOver, evaluated, numberOf, placeOf, evaluateNumbers}
+use Rattle.expressions.specs.Answers.{readingOf, valueIn, evaluatedBy, evaluatedOver, evaluated, numberOf, placeOf, metNumbers, evaluateNumbers}
 use Rattle.expressions.specs.declared.Evaluated.{Evaluated}
 use Rattle.expressions.specs.declared.operators.Operator.{Operator}
 use Rattle.expressions.specs.declared.tokens.Lexed.{Lexed}
@@ -284,11 +284,6 @@ evaluated-bounded text table allowance =
     (λ _. record { number = omega arith; place = omega arith; listed = member over-length evaluateNumbers refl })
     (λ e. over (ltb-false longest (length text) e) (checked table) (checked-bounded table))
   where
-    widened : {n : ℕ} → List·Memᴰ n checkNumbers → List·Memᴰ n evaluateNumbers
-    widened (head e) = head e
-    widened (tail (head e)) = tail (head e)
-    widened (tail (tail (head e))) = tail (tail (head e))
-
     over : length text ≤ longest → (d : Checked) → Checks d → Bounded (evaluatedOver d (readingOf text table) allowance (valueIn text table))
     over short (Good count) b =
         let t = readingOf text table in
@@ -297,4 +292,4 @@ evaluated-bounded text table allowance =
         by-bounded (run t (allowed allowance)) (valueIn text table) (omega arith)
         (λ number place q. omega (arith, stopped-number t (allowed allowance) number place q))
         (run-listed evaluateNumbers (member allowance-spent evaluateNumbers refl) placed (allowed allowance))
-    over short (Unsound number at) b = record { number = b .number; place = b .place; listed = widened (b .listed) }
+    over short (Unsound number at) b = record { number = b .number; place = b .place; listed = Memᴰ·append-left metNumbers (b .listed) }

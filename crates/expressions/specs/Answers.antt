@@ -1,14 +1,14 @@
 -- What an evaluation answers.
 use mathlib.Core.Bool.{cond}
-use mathlib.Core.List.{List, [], _∷_}
+use mathlib.Core.List.{List, [], _∷_, _++_}
 use Prim.Native.Nat.{ℕ}
 use lib.Dec.{ltb}
 use lib.IntN.{ℤ}
 use lib.ListN.{length}
-use Rattle.paper.specs.Refusals.{no-digit, bad-base, too-big, unknown-name, too-deep, allowance-spent, bad-table, bad-expression, zero-divisor, not-an-integer, over-length, longest}
+use Rattle.paper.specs.Refusals.{no-digit, bad-base, too-big, unknown-name, too-deep, allowance-spent, bad-expression, zero-divisor, not-an-integer, over-length, longest}
 use Rattle.paper.specs.Traces.{Trace, Run, finished, stopped, run, allowed}
 use Rattle.variables.specs.Names.{namesOf}
-use Rattle.variables.specs.Tables.{checked}
+use Rattle.variables.specs.Tables.{checked, checkNumbers}
 use Rattle.variables.specs.declared.Checked.{Checked}
 use Rattle.variables.specs.declared.Checked.the-variants.{Good, Refused as Unsound}
 use Rattle.expressions.specs.Trees.{whole}
@@ -61,7 +61,11 @@ patternOf (BadTable number at) = 0
 abbrev pub valueOf : Evaluated → ℤ
 valueOf r = signed (patternOf r)
 
--- the numbers that an answer can have, in the order in which the refusals are looked for
+-- the numbers that an answer can have, in the order in which the refusals are looked for: those of a table's check, of the syntax, of the
+-- evaluation
+abbrev pub metNumbers : List ℕ
+metNumbers =
+    bad-expression ∷ too-deep ∷ no-digit ∷ bad-base ∷ too-big ∷ unknown-name ∷ not-an-integer ∷ allowance-spent ∷ zero-divisor ∷ []
+
 abbrev pub evaluateNumbers : List ℕ
-evaluateNumbers =
-    0 ∷ over-length ∷ bad-table ∷ bad-expression ∷ too-deep ∷ no-digit ∷ bad-base ∷ too-big ∷ unknown-name ∷ not-an-integer ∷ allowance-spent ∷ zero-divisor ∷ []
+evaluateNumbers = checkNumbers ++ metNumbers

@@ -8,7 +8,7 @@ use lib.ListN.{length, take, drop}
 use lib.Seq.{sets-eq}
 use Rattle.paper.specs.Refusals.{no-room}
 use Rattle.paper.specs.Traces.{Trace, bytes, Run, finished, stopped, run, fit, answer}
-use Rattle.paper.proofs.Choice.{below, not-below, same, other}
+use Rattle.paper.proofs.Choice.{clash, below, not-below, same, other}
 use Rattle.paper.proofs.DemandThree.{stopped-number}
 use Rattle.gs.specs.Translations.{refusedAt, translatedBy, leftBy}
 use Rattle.gs.specs.Steps.{Laid, Read, reached, broken}
@@ -16,9 +16,6 @@ use Rattle.gs.specs.declared.expansion.Expanded.{Expanded}
 use Rattle.gs.specs.declared.expansion.Expanded.the-variants.{Ended, Halted}
 use Rattle.gs.specs.declared.Translated.{Translated}
 use Rattle.gs.specs.declared.Translated.the-variants.{Written}
-
-clash : {A : Type 0} → _≡_ {A = ℕ} 0 1 → A
-clash z = absurd (omega arith)
 
 -- nothing that was lent and came back is nothing before the rest
 pub nothing-lent : (part out : List ℕ) → length part ≡ 0 → part ++ out ≡ out

@@ -7,3 +7,4 @@ pub mod PlainRuns
 pub mod Follows
 pub mod Fills
 pub mod Limits
+pub mod Orders

@@ -1,7 +1,7 @@
 -- How far the numbers of a translation go: every place lies in the text, and every look-up gives 255 bytes at the most.
 use mathlib.Core.Path.{_≡_, refl, ap, sym, subst, _∙_}
 use mathlib.Core.Bool.{true, cond}
-use mathlib.Core.List.{List, [], _∷_, _++_, List·Memᴰ, Memᴰ·cast, List·Memᴰ·head as head, List·Memᴰ·tail as tail}
+use mathlib.Core.List.{List, [], _∷_, _++_, List·Memᴰ, Memᴰ·cast, Memᴰ·append-left}
 use Prim.Native.Nat.{ℕ, zero, suc, _+_, _-_, _*_, _%_, _≤_, _<_}
 use native.Mathlib.Omega.{arith}
 use native.Mathlib.Decide.{decLt, decLe}
@@ -13,7 +13,7 @@ use Rattle.paper.specs.Answers.{Answer}
 use Rattle.paper.specs.Refusals.{no-room, too-big, bad-code, bad-string, bad-reference, unknown-name, too-deep, allowance-spent, over-length, longest}
 use Rattle.paper.specs.Traces.{numberOf, Reference, Trace, ended, refused, gives, asks, spends, enters, bytes, Run, finished, stopped, behind, spending, run, fit, Ending, done, failed, beyond, ending, reached, lookUps, allowed}
 use Rattle.paper.specs.declared.faults.Fault.{Fault}
-use Rattle.paper.proofs.Choice.{either}
+use Rattle.paper.proofs.Choice.{clash, either}
 use Rattle.paper.proofs.Placed.{Placed, ended-at, refused-at, gives-on, asks-on, spends-at, enters-at, placeOf, run-placed, member, Listed, run-listed}
 use Rattle.paper.proofs.DemandThree.{stopped-number, finished-within}
 use Rattle.reader.specs.Reading.{reading}
@@ -23,7 +23,7 @@ use Rattle.numbers.specs.declared.forms.Width.the-variants.{Word}
 use Rattle.numbers.proofs.Bounds.{decimal-short}
 use Rattle.gs.specs.Symbols.{symbolAt, opened}
 use Rattle.gs.specs.Readings.{givesAll, decimalOf, Expand, named, content, symbolic, following, whole, expands}
-use Rattle.gs.specs.Translations.{readingOf, translatedBy, translatedOver, translated, inPaper, translateNumbers}
+use Rattle.gs.specs.Translations.{readingOf, translatedBy, translatedOver, translated, inPaper, metNumbers, translateNumbers}
 use Rattle.gs.specs.declared.Translated.{Translated}
 use Rattle.gs.specs.declared.symbols.Mode.{Mode}
 use Rattle.gs.specs.declared.symbols.Opening.{Opening}
@@ -31,16 +31,13 @@ use Rattle.gs.specs.declared.symbols.Symbol.{Symbol}
 use Rattle.gs.specs.declared.symbols.Symbol.the-variants.{End, Byte, Reference as Names, Bad}
 use Rattle.variables.specs.Records as Records
 use Rattle.variables.specs.Records.{Entry, nothing, means, valueLength, valueStart, valueAt, entryAt}
-use Rattle.variables.specs.Tables.{checked, meaningOf, checkNumbers}
+use Rattle.variables.specs.Tables.{checked, meaningOf}
 use Rattle.variables.specs.Names.{Meaning, unknown, string-of, integer-of, macro-of, meant, inReading, namesOf}
 use Rattle.variables.specs.declared.Checked.{Checked}
 use Rattle.variables.specs.declared.Checked.the-variants.{Good, Refused as Unsound}
 use Rattle.variables.proofs.Bounds.{Bounded, checked-bounded}
 use Rattle.variables.proofs.Own.{Own, meaning-own}
 use Rattle.gs.proofs.Places.{Stands, quoteOf, symbol-stands, opened-stands}
-
-clash : {A : Type 0} → _≡_ {A = ℕ} 0 1 → A
-clash z = absurd (omega arith)
 
 -- the three faults of a symbol
 symbol-listed : (number : ℕ) → 7 ≤ number → number ≤ 9 → List·Memᴰ number translateNumbers
@@ -248,12 +245,7 @@ module _ (text table : List ℕ) (flags allowance room : ℕ) (bs : (k : ℕ) �
   listed-over : (d : Checked) → Bounded d → Numbered (translatedOver d t allowance room)
   listed-over (Good count) b =
       listed-by (run t (allowed allowance)) (run-listed translateNumbers (member allowance-spent translateNumbers refl) (limited .placed) (allowed allowance))
-  listed-over (Unsound number at) b = widened (b .listed)
-    where
-      widened : {n : ℕ} → List·Memᴰ n checkNumbers → List·Memᴰ n translateNumbers
-      widened (head e) = head e
-      widened (tail (head e)) = tail (head e)
-      widened (tail (tail (head e))) = tail (tail (head e))
+  listed-over (Unsound number at) b = Memᴰ·append-left metNumbers (b .listed)
 
   pub translated-listed : Numbered (translated text table flags allowance room)
   unfolding translated

@@ -6,6 +6,7 @@ use Prim.Native.Nat.{ℕ, zero, suc, _+_, _-_, _*_, _≤_, _<_}
 use native.Mathlib.Nat.{add-zero}
 use native.Mathlib.Omega.{arith}
 use lib.ListN.{length, take, drop, length-append}
+use Rattle.paper.proofs.Choice.{clash}
 use Rattle.paper.specs.Traces.{numberOf, Trace, bytes, run, stopped}
 use Rattle.paper.specs.declared.TextPlace.{TextPlace}
 use Rattle.paper.specs.declared.faults.Fault.{Fault}
@@ -23,9 +24,6 @@ use Rattle.gs.specs.declared.expansion.Progress.the-variants.{Going, Sto
 use Rattle.gs.specs.declared.expansion.Expanded.the-variants.{Ended, Halted}
 use Rattle.gs.proofs.Pieces.{laid-none, laid-more, content-piece}
 use Rattle.gs.proofs.Places.{quoteOf, opened-stands}
-
-clash : {A : Type 0} → _≡_ {A = ℕ} 0 1 → A
-clash z = absurd (omega arith)
 
 -- a reference that came through
 pub record Through (piece : Trace → Trace) (left at to left′ : ℕ) (out after : List ℕ) : Type 0 where

@@ -5,9 +5,9 @@ use Prim.Native.Nat.{ℕ}
 use lib.Dec.{ltb, eqb}
 use lib.ListN.{length, drop}
 use Rattle.paper.specs.Answers.{Answer}
-use Rattle.paper.specs.Refusals.{no-room, too-big, bad-code, bad-string, bad-reference, unknown-name, too-deep, allowance-spent, bad-table, over-length, longest}
+use Rattle.paper.specs.Refusals.{no-room, too-big, bad-code, bad-string, bad-reference, unknown-name, too-deep, allowance-spent, over-length, longest}
 use Rattle.paper.specs.Traces.{Trace, bytes, answer, allowed}
-use Rattle.variables.specs.Tables.{checked}
+use Rattle.variables.specs.Tables.{checked, checkNumbers}
 use Rattle.variables.specs.Names.{namesOf}
 use Rattle.variables.specs.declared.Checked.{Checked}
 use Rattle.variables.specs.declared.Checked.the-variants.{Good, Refused as Unsound}
@@ -52,7 +52,9 @@ inPaper (Written end need free) = record { number = 0; place = end .0; need = ne
 inPaper (Refused number at need free) = record { number = number; place = at .0; need = need; free = free }
 inPaper (BadTable number at free) = record { number = number; place = at .0; need = 0; free = free }
 
--- the numbers that an answer can have: 18 and 13, those that the reading meets, 1 last
+-- the numbers that an answer can have: those of a table's check, those that the reading meets, 1 last
+abbrev pub metNumbers : List ℕ
+metNumbers = bad-reference ∷ too-big ∷ unknown-name ∷ too-deep ∷ allowance-spent ∷ bad-code ∷ bad-string ∷ no-room ∷ []
+
 abbrev pub translateNumbers : List ℕ
-translateNumbers =
-    0 ∷ over-length ∷ bad-table ∷ bad-reference ∷ too-big ∷ unknown-name ∷ too-deep ∷ allowance-spent ∷ bad-code ∷ bad-string ∷ no-room ∷ []
+translateNumbers = checkNumbers ++ metNumbers

@@ -9,7 +9,7 @@ use Rattle.paper.specs.Refusals.{allowance-spent, over-length, longest}
 use Rattle.paper.specs.Traces.{Trace, Run, finished, stopped, run, lookUps, allowed}
 use Rattle.paper.specs.declared.TextPlace.{TextPlace}
 use Rattle.paper.specs.declared.RecordPlace.{RecordPlace}
-use Rattle.paper.proofs.Choice.{below, not-below}
+use Rattle.paper.proofs.Choice.{clash}
 use Rattle.paper.proofs.DemandThree.{stopNumber, run-more, run-spent}
 use Rattle.variables.specs.Tables.{checked}
 use Rattle.variables.specs.declared.Checked.{Checked}
@@ -18,6 +18,7 @@ use Rattle.expressions.specs.Answers.{readingOf, valueIn, refusedAt, evaluatedB
 use Rattle.expressions.specs.declared.Evaluated.{Evaluated}
 use Rattle.expressions.specs.declared.Evaluated.the-variants.{Value, Refused, BadTable}
 use Rattle.expressions.proofs.Limits.{evaluated-bounded}
+use Rattle.expressions.proofs.Orders.{too-long, over}
 use Rattle.promises.specs.Allowed.{Evaluates}
 use Rattle.promises.specs.Translations.{Sound}
 use Rattle.promises.specs.Evaluations.{OneAnswer, Refusals, Valued, ByReading, Unread, LargerAllowance, Spent}
@@ -27,16 +28,6 @@ one-answer text table allowance r r′ c c′ = c .answer ∙ sym (c′ .answer)
 
 pub refusals : Refusals
 refusals text table allowance r c = Memᴰ·cast (ap numberOf (c .answer)) (evaluated-bounded text table allowance .listed)
-
-module _ (text table : List ℕ) (allowance : ℕ) where
-  over : (d : Checked) → length text ≤ longest → checked table ≡ d
-      → evaluatedOver d (readingOf text table) allowance (valueIn text table) ≡ evaluated text table allowance
-  unfolding evaluated
-  over d short e = not-below longest (length text) _ _ short (ap (λ k. evaluatedOver k (readingOf text table) allowance (valueIn text table)) (sym e))
-
-  too-long : longest < length text → refusedAt over-length 0 ≡ evaluated text table allowance
-  unfolding evaluated
-  too-long long = below longest (length text) _ _ long refl
 
 pub by-reading : ByReading
 by-reading text table allowance r s c = c .answer ∙ sym (over text table allowance (Good (s .count)) (s .short) (s .good))
@@ -50,7 +41,7 @@ unread text table allowance r c = (
 -- an accepted value came from a run that finished
 value-by : (r : Run) (value pattern : ℕ) (end : TextPlace) → evaluatedBy r value ≡ Value pattern end → pattern ≡ value
 value-by (finished e left) value pattern end h = cc
-value-by (stopped number place) value pattern end h = let z : _≡_ {A = ℕ} 0 1 = cc in absurd (omega arith)
+value-by (stopped number place) value pattern end h = clash (cc)
 
 pub valued : Valued
 valued text table allowance r c pattern end e = go (checked table) refl (decLt longest (length text))
@@ -59,13 +50,12 @@ valued text table allowance r c pattern end e = go (checked table) refl (decLt l
     whole = sym (c .answer) ∙ e
 
     go : (d : Checked) → checked table ≡ d → Dec (longest < length text) → pattern ≡ valueIn text table
-    go d q (yes long) = let h = too-long text table allowance long ∙ whole in let z : _≡_ {A = ℕ} 0 1 = cc in absurd (omega arith)
+    go d q (yes long) = let h = too-long text table allowance long ∙ whole in clash (cc)
     go (Good count) q (no short) =
         value-by (run (readingOf text table) (allowed allowance)) (valueIn text table) pattern end (over text table allowance (Good count) (omega arith) q ∙ whole)
     go (Unsound number at) q (no short) =
         let h = over text table allowance (Unsound number at) (omega arith) q ∙ whole in
-        let z : _≡_ {A = ℕ} 0 1 = cc in
-        absurd (omega arith)
+        clash (cc)
 
 -- an answer's number is its run's
 number-by : (r : Run) (value : ℕ) → numberOf (evaluatedBy r value) ≡ stopNumber r

@@ -4,6 +4,7 @@ use mathlib.Core.List.{List, Memᴰ·cast}
 use Prim.Native.Nat.{ℕ, _+_, _≤_}
 use native.Mathlib.Omega.{arith}
 use lib.ListN.{length}
+use Rattle.paper.proofs.Choice.{clash}
 use Rattle.variables.specs.Records as Records
 use Rattle.variables.specs.Records.{nothing, means}
 use Rattle.variables.specs.Tables.{checked, recordsOf, meaningOf, variableAt, foundAs, foundIn, lookedUp, numberOf, foundNumber}
@@ -27,9 +28,6 @@ check-refusals table r c = Memᴰ·cast (ap numberOf (c .answer)) (checked-bound
 
 pub look-up-refusals : LookUpRefusals
 look-up-refusals table name r c = Memᴰ·cast (ap foundNumber (c .answer)) (looked-up-bounded table name .listed)
-
-clash : {A : Type 0} → _≡_ {A = ℕ} 0 1 → A
-clash z = absurd (omega arith)
 
 module _ (table name : List ℕ) (v : Variable) where
   record-inside : (n : ℕ) (m : Records.Meaning) → checked table ≡ Good n → meaningOf table name ≡ m → At v ≡ foundAs table m

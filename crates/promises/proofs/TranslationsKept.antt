@@ -10,14 +10,14 @@ use borrow.Author.Tests.{eqb-true}
 use Rattle.paper.specs.Answers.{Answer, Grown}
 use Rattle.paper.specs.Refusals.{no-room, allowance-spent, over-length, longest}
 use Rattle.paper.specs.Traces.{Trace, bytes, answer, allowed}
-use Rattle.paper.proofs.Choice.{below, not-below}
 use Rattle.paper.proofs.DemandThree.{more-room, more-allowance, no-room-exactly, no-room-need, spent-exactly}
 use Rattle.variables.specs.Tables.{checked}
-use Rattle.variables.specs.declared.Checked.the-variants.{Refused as Unsound}
+use Rattle.variables.specs.declared.Checked.the-variants.{Good, Refused as Unsound}
 use Rattle.paper.specs.declared.RecordPlace.{RecordPlace}
 use Rattle.gs.specs.Translations.{readingOf, translatedBy, translatedOver, leftBy, translated, outAfter, inPaper}
 use Rattle.gs.specs.declared.Translated.{Translated}
 use Rattle.gs.proofs.Limits.{translated-listed}
+use Rattle.gs.proofs.Orders.{too-long, over}
 use Rattle.gs.specs.declared.Translated.the-variants.{Written, Refused, BadTable}
 use Rattle.promises.specs.Allowed.{Translates}
 use Rattle.promises.specs.Translations.{OneAnswer, Refusals, Kept, Bytes, Sound, ByReading, Unread, LargerRoom, LargerAllowance, NoRoom, Spent}
@@ -56,32 +56,15 @@ in-by a = go (eqb (a .number) 0) refl
     go true e = let z : a .number ≡ 0 = eqb-true (a .number) 0 e in λ i. record { number = sym z i; place = a .place; need = a .need; free = a .free }
     go false e = refl
 
-sound-answer : (text table : List ℕ) (flags allowance room : ℕ) → Sound text table
-    → translatedBy (answer (readingOf text table flags) (allowed allowance) room) ≡ translated text table flags allowance room
-unfolding translated
-sound-answer text table flags allowance room s =
-    not-below longest (length text) _ _ (s .short) (ap (λ d. translatedOver d (readingOf text table flags) allowance room) (sym (s .good)))
-
 pub by-reading : ByReading
 by-reading text table flags allowance out after r s c =
-    ap inPaper (c .answer ∙ sym (sound-answer text table flags allowance (length out) s))
+    ap inPaper (c .answer ∙ sym (over text table flags allowance (length out) (Good (s .count)) (s .short) (s .good)))
     ∙ in-by (answer (readingOf text table flags) (allowed allowance) (length out))
-
-too-long : (text table : List ℕ) (flags allowance room : ℕ) → longest < length text
-    → Refused over-length (record { 0 = 0 }) 0 room ≡ translated text table flags allowance room
-unfolding translated
-too-long text table flags allowance room long = below longest (length text) _ _ long refl
-
-bad-table : (text table : List ℕ) (flags allowance room number : ℕ) (at : RecordPlace) → length text ≤ longest → checked table ≡ Unsound number at
-    → BadTable number at room ≡ translated text table flags allowance room
-unfolding translated
-bad-table text table flags allowance room number at short bad =
-    not-below longest (length text) _ _ short (ap (λ d. translatedOver d (readingOf text table flags) allowance room) (sym bad))
 
 pub unread : Unread
 unread text table flags allowance out after r c = (
   λ long. ap inPaper (c .answer ∙ sym (too-long text table flags allowance (length out) long)),
-  λ number at short bad. ap inPaper (c .answer ∙ sym (bad-table text table flags allowance (length out) number at short bad)),
+  λ number at short bad. ap inPaper (c .answer ∙ sym (over text table flags allowance (length out) (Unsound number at) short bad)),
 )
 
 pub larger-room : LargerRoom

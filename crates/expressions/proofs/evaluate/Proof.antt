@@ -1,30 +1,12 @@
 -- `evaluate` meets its contract: 18 for the text, 18 and 13 for the table, then the reading.
-use mathlib.Core.Path.{_≡_, refl, ap, sym, _∙_}
-use mathlib.Core.List.{List}
-use Prim.Native.Nat.{ℕ, _≤_, _<_}
+use mathlib.Core.Path.{ap, sym, _∙_}
 use native.Mathlib.Omega.{arith}
-use lib.ListN.{length}
-use Rattle.paper.specs.Refusals.{over-length, longest}
 use Rattle.paper.specs.Traces.{run}
-use Rattle.paper.proofs.Choice.{below, not-below}
-use Rattle.variables.specs.Tables.{checked}
-use Rattle.variables.specs.declared.Checked.{Checked}
-use Rattle.expressions.specs.Answers.{readingOf, valueIn, refusedAt, evaluatedBy, evaluatedOver, evaluated}
+use Rattle.expressions.specs.Answers.{readingOf, valueIn, evaluatedBy}
+use Rattle.expressions.proofs.Orders.{too-long, over}
 use borrow.Author.Needs.{needs}
 use Rattle.expressions.proofs.evaluate.Statement.{statement}
 use Rattle.expressions.proofs.evaluate.Tie as tie
-
-module _ (text table : List ℕ) (allowance : ℕ) where
-  too-long : longest < length text → refusedAt over-length 0 ≡ evaluated text table allowance
-  unfolding evaluated
-  too-long h = below longest (length text) _ _ h refl
-
-  over : (d : Checked) → length text ≤ longest → checked table ≡ d
-      → evaluatedOver d (readingOf text table) allowance (valueIn text table) ≡ evaluated text table allowance
-  unfolding evaluated
-  over d h e =
-      not-below longest (length text) _ _ h
-      (ap (λ k. evaluatedOver k (readingOf text table) allowance (valueIn text table)) (sym e))
 
 refused-requires : tie.Need-refused-requires
 refused-requires c κs = search needs

@@ -1,17 +1,12 @@
 -- `translate` meets its contract: 18 for the text, 18 and 13 for the table, then the reading.
-use mathlib.Core.Path.{_≡_, refl, ap, sym, _∙_}
+use mathlib.Core.Path.{_≡_, ap, sym, _∙_}
 use mathlib.Core.List.{List}
-use Prim.Native.Nat.{ℕ, _≤_, _<_}
+use Prim.Native.Nat.{ℕ}
 use lib.ListN.{length}
-use Rattle.paper.specs.Refusals.{over-length, longest}
 use Rattle.paper.specs.Traces.{bytes, answer}
-use Rattle.paper.proofs.Choice.{below, not-below}
-use Rattle.variables.specs.Tables.{checked}
-use Rattle.variables.specs.declared.Checked.{Checked}
-use Rattle.variables.specs.declared.Checked.the-variants.{Good, Refused}
-use Rattle.gs.specs.Translations.{readingOf, refusedAt, translatedBy, translatedOver, leftBy, translated, outAfter}
+use Rattle.gs.specs.Translations.{readingOf, translatedBy, leftBy, translated, outAfter}
+use Rattle.gs.proofs.Orders.{too-long, over}
 use Rattle.gs.specs.declared.Translated.{Translated}
-use Rattle.gs.specs.declared.Translated.the-variants.{BadTable}
 use borrow.Author.Needs.{needs}
 use Rattle.gs.proofs.translate.Statement.{statement}
 use Rattle.gs.proofs.translate.Tie as tie
@@ -23,24 +18,13 @@ module _ (text table : List ℕ) (flags allowance : ℕ) (out : List ℕ) where
   unfolding outAfter
   left-by r e = ap (λ r. leftBy r (bytes (readingOf text table flags)) out) e
 
-  too-long : longest < length text → refusedAt over-length 0 0 (length out) ≡ translated text table flags allowance (length out)
-  unfolding translated
-  too-long h = below longest (length text) _ _ h refl
-
-  over : (d : Checked) → length text ≤ longest → checked table ≡ d
-      → translatedOver d (readingOf text table flags) allowance (length out) ≡ translated text table flags allowance (length out)
-  unfolding translated
-  over d h e =
-      not-below longest (length text) _ _ h
-      (ap (λ k. translatedOver k (readingOf text table flags) allowance (length out)) (sym e))
-
 refused-requires : tie.Need-refused-requires
 refused-requires c κs = search needs
 
 returns : tie.Need-returns
 returns c =
     let a = c .before .before .before .before .before .args in
-    let e = c .refused .ensures ∙ too-long (a .text .now) (a .table .now) (a .flags .0) (a .allowance) (a .out .now) (c .before .if1 .taken) in (
+    let e = c .refused .ensures ∙ too-long (a .text .now) (a .table .now) (a .flags .0) (a .allowance) (length (a .out .now)) (c .before .if1 .taken) in (
       e,
       ap (λ r. leftBy r (bytes (readingOf (a .text .now) (a .table .now) (a .flags .0))) (a .out .now)) (sym (c .refused .ensures))
           ∙ left-by (a .text .now) (a .table .now) (a .flags .0) (a .allowance) (a .out .now) _ e,
@@ -64,7 +48,7 @@ fill-requires c κs = search needs
 returns-2 : tie.Need-returns-2
 returns-2 c =
     let a = c .before .before .before .before .before .before .before .before .args in
-    let e = over (a .text .now) (a .table .now) (a .flags .0) (a .allowance) (a .out .now) _ (c .before .before .before .before .if1 .left)
+    let e = over (a .text .now) (a .table .now) (a .flags .0) (a .allowance) (length (a .out .now)) _ (c .before .before .before .before .if1 .left)
     (sym (c .before .before .before .check-table .ensures) ∙ c .before .checked .given .1) in
     (e, left-by (a .text .now) (a .table .now) (a .flags .0) (a .allowance) (a .out .now) _ e)
 
@@ -76,7 +60,7 @@ returns-3 c =
     let a = c .before .before .before .before .before .before .before .before .before .before .before .before .args in
     let t = readingOf (a .text .now) (a .table .now) (a .flags .0) in
     let e = c .before .before .fill .ensures .0 ∙ ap (λ n. translatedBy (answer t n (length (a .out .now)))) (c .before .before .before .before .cap .ensures .0)
-    ∙ over (a .text .now) (a .table .now) (a .flags .0) (a .allowance) (a .out .now) _ (c .before .before .before .before .before .before .before .before .if1 .left)
+    ∙ over (a .text .now) (a .table .now) (a .flags .0) (a .allowance) (length (a .out .now)) _ (c .before .before .before .before .before .before .before .before .if1 .left)
     (sym (c .before .before .before .before .before .before .before .check-table .ensures) ∙ c .before .before .before .before .before .enum-told .given .1) in
     (e, c .before .before .fill .ensures .1 ∙ left-by (a .text .now) (a .table .now) (a .flags .0) (a .allowance) (a .out .now) _ e)
 

@@ -9,7 +9,7 @@ use lib.Dec.{eqb}
 use lib.ListN.{take, drop}
 use Rattle.paper.specs.Refusals.{unknown-name, not-an-integer, allowance-spent}
 use Rattle.paper.specs.Traces.{run, ended}
-use Rattle.paper.proofs.Choice.{either, same, other}
+use Rattle.paper.proofs.Choice.{clash, either, same, other}
 use Rattle.variables.specs.Records as Records
 use Rattle.variables.specs.Records.{Entry, nothing, means, entryAt}
 use Rattle.variables.specs.Tables.{variableAt, foundAs, meaningOf}
@@ -24,9 +24,6 @@ use Rattle.expressions.specs.declared.parts.Part.{Part}
 use Rattle.expressions.specs.declared.parts.Part.the-variants.{Value, Refused}
 use Rattle.expressions.proofs.parts.look_up.Statement.{statement}
 use Rattle.expressions.proofs.parts.look_up.Tie as tie
-
-clash : {A : Type 0} → _≡_ {A = ℕ} 0 1 → A
-clash z = absurd (omega arith)
 
 -- the part that a name makes, by what it means
 module _ (place next left : ℕ) where

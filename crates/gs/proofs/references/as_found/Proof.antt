@@ -4,6 +4,7 @@ use mathlib.Core.List.{List}
 use Prim.Native.Nat.{ℕ}
 use native.Mathlib.Omega.{arith}
 use borrow.Author.Needs.{needs}
+use Rattle.paper.proofs.Choice.{clash}
 use Rattle.variables.specs.Records as Records
 use Rattle.variables.specs.Records.{nothing, means}
 use Rattle.variables.specs.Tables.{variableAt, foundAs}
@@ -27,9 +28,6 @@ enum-told c = search needs
 
 enum-told-2 : tie.Need-enum-told-2
 enum-told-2 c = search needs
-
-clash : {A : Type 0} → _≡_ {A = ℕ} 0 1 → A
-clash z = absurd (omega arith)
 
 found-at : (found : Found) (v : Variable) (r : Referred) → found ≡ At v → r ≡ kinded (v .kind) v
     → (table : List ℕ) (m : Records.Meaning) → found ≡ foundAs table m → r ≡ variableAs table m
