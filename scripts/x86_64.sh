@@ -21,6 +21,18 @@ aarch64)
 *) fail "the programs are x86-64 code, and this script knows no emulator for $machine" ;;
 esac
 
+# Sets `compiler`, a C compiler for x86-64: a cross compiler where programs run under an emulator.
+find_compiler() {
+    if [ "${#emulator[@]}" -eq 0 ]; then
+        compiler=cc
+        command -v cc >/dev/null || missing+=(gcc libc6-dev)
+    else
+        compiler=x86_64-linux-gnu-gcc
+        command -v "$compiler" >/dev/null || missing+=(gcc-x86-64-linux-gnu)
+        [ -f /usr/x86_64-linux-gnu/include/stdio.h ] || missing+=(libc6-dev-amd64-cross)
+    fi
+}
+
 # The package lists are fetched only where the ones at hand, if any, do not do.
 get_packages() {
     local get=(env DEBIAN_FRONTEND=noninteractive apt-get install -y -qq --no-install-recommends "${missing[@]}")

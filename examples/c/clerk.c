@@ -38,9 +38,12 @@ const char *in_words(uint64_t answer)
     case NOS_ALLOWANCE_SPENT: return "the allowance is spent";
     case NOS_BAD_TABLE: return "a bad record";
     case NOS_UNKNOWN_CALL: return "unknown call";
+    case NOS_BAD_EXPRESSION: return "that cannot stand there";
+    case NOS_ZERO_DIVISOR: return "over zero";
+    case NOS_NOT_AN_INTEGER: return "not an integer";
     case NOS_OVER_LENGTH: return "over 65535 bytes";
     }
-    check(0, "the five functions give no other number");
+    check(0, "the six functions give no other number");
     return "";
 }
 

@@ -21,7 +21,7 @@ void fill(uint8_t *bytes, size_t size);
 void remember(const uint8_t *paper, size_t size);
 void check_the_rest(const uint8_t *paper, size_t size, size_t at, size_t written);
 
-/* The work on variables and texts. */
+/* The work on variables, texts and sums. */
 void headings(void);
 
 #endif

@@ -1,4 +1,4 @@
-/* The clerk's headings: variables in a table, and texts that name them. */
+/* The clerk's headings: variables in a table, texts that name them, and sums over them. */
 #include <inttypes.h>
 #include <stdio.h>
 #include <string.h>
@@ -279,6 +279,72 @@ static void the_largest(void)
     expect_refused(a, "1025 look-ups (allowance 4294967295)", NOS_ALLOWANCE_SPENT, NOS_IN_THE_TEXT, 3 * 1024);
 }
 
+/* Works a sum out, and checks what holds of every call. */
+static uint64_t evaluate(const uint8_t *text, size_t length, uint32_t allowance)
+{
+    uint64_t answer = nos_evaluate(text, length, table, table_length, allowance);
+    check(nos_number(answer) == NOS_ACCEPTED || nos_value(answer) == 0, "a refused sum has no value");
+    check(nos_counted(answer) == NOS_IN_THE_TEXT && nos_place(answer) <= length, "over a good table the place is in the text");
+    return answer;
+}
+
+static void sums(void)
+{
+    static const struct { const char *text; uint32_t allowance, number; int64_t value; size_t place; } lines[] = {
+        {"balance + 1250", 1, NOS_ACCEPTED, 0, 14},
+        {" (12 + 3) * -96 ", 0, NOS_ACCEPTED, -1440, 16},
+        {"2147483647+1", 0, NOS_ACCEPTED, -2147483648, 12},
+        {"-7 MOD 2", 0, NOS_ACCEPTED, -1, 8},
+        {"&FFFFFFFF >>> 28", 0, NOS_ACCEPTED, 15, 16},
+        {"Balance < 0 AND NOT 2_1", 1, NOS_ACCEPTED, -2, 23},
+        {"96 <> 1250\n/0", 0, NOS_ACCEPTED, -1, 10},
+        {"12kg", 0, NOS_BAD_EXPRESSION, 0, 2},
+        {"1/0+(", 0, NOS_BAD_EXPRESSION, 0, 5},
+        {"----------------+1", 0, NOS_TOO_DEEP, 0, 16},
+        {"1+&", 0, NOS_NO_DIGIT, 0, 3},
+        {"37_1", 0, NOS_BAD_BASE, 0, 0},
+        {"0+4294967296", 0, NOS_TOO_BIG, 0, 2},
+        {"1+Nobody", 9, NOS_UNKNOWN_NAME, 0, 2},
+        {"1+Farm$Name", 9, NOS_NOT_AN_INTEGER, 0, 2},
+        {"1+Heading", 9, NOS_NOT_AN_INTEGER, 0, 2},
+        {"Balance-Balance", 1, NOS_ALLOWANCE_SPENT, 0, 8},
+        {"96/(Balance+1250)", 1, NOS_ZERO_DIVISOR, 0, 2},
+    };
+    for (size_t i = 0; i < sizeof lines / sizeof lines[0]; i++) {
+        uint64_t answer = evaluate(bytes_of(lines[i].text), strlen(lines[i].text), lines[i].allowance);
+        check(nos_number(answer) == lines[i].number && nos_place(answer) == lines[i].place, lines[i].text);
+        check(nos_signed(answer) == lines[i].value, lines[i].text);
+        print_bytes(bytes_of(lines[i].text), strlen(lines[i].text));
+        if (nos_number(answer) == NOS_ACCEPTED)
+            printf(": %" PRId64 ", read up to %zu\n", nos_signed(answer), nos_place(answer));
+        else
+            printf(": refused %" PRIu32 " at %zu, %s\n", nos_number(answer), nos_place(answer), in_words(answer));
+    }
+}
+
+/* Sums of nothing, over nothing, and over what is too much. */
+static void other_sums(void)
+{
+    uint64_t nothing = nos_evaluate(NULL, 0, NULL, 0, 0);
+    check(nothing == NOS_BAD_EXPRESSION, "no text is refused at 0, with no value");
+    printf("no sum: refused %" PRIu32 " at %zu, %s\n", nos_number(nothing), nos_place(nothing), in_words(nothing));
+    uint64_t unknown = nos_evaluate(bytes_of("Balance"), 7, NULL, 0, 9);
+    check(unknown == NOS_UNKNOWN_NAME, "in no table every name is unknown");
+    printf("Balance, no table: refused %" PRIu32 " at %zu, %s\n", nos_number(unknown), nos_place(unknown), in_words(unknown));
+    memset(longest, ' ', sizeof longest);
+    longest[NOS_LONGEST - 1] = '7';
+    uint64_t most = evaluate(longest, NOS_LONGEST, 0), more = evaluate(longest, sizeof longest, 0);
+    check(nos_number(most) == NOS_ACCEPTED && nos_signed(most) == 7 && nos_place(most) == NOS_LONGEST, "65535 bytes are read");
+    check(more == NOS_OVER_LENGTH, "65536 bytes are not");
+    printf("65534 spaces and 7: %" PRId64 "; the same and a space: refused %" PRIu32 "\n", nos_signed(most), nos_number(more));
+    table[24] = 83;
+    uint64_t bad = nos_evaluate(bytes_of("1/0"), 3, table, table_length, 0);
+    table[24] = 82;
+    check(bad == (NOS_BAD_TABLE | NOS_IN_THE_TABLE << 8 | 23 << 16), "a damaged table comes before the sum's own faults");
+    printf("1/0 over a damaged table: refused %" PRIu32 " at %zu in the table, %s\n", nos_number(bad), nos_place(bad),
+           in_words(bad));
+}
+
 void headings(void)
 {
     build_the_table();
@@ -288,4 +354,6 @@ void headings(void)
     of_nothing();
     refusals();
     the_largest();
+    sums();
+    other_sums();
 }

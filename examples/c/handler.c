@@ -1,0 +1,261 @@
+/* The conversion calls of an emulated ARM machine, served through the library: see handler.h. */
+#include <string.h>
+
+#include "handler.h"
+
+#define X_FORM (1u << 17)
+#define FLAG_BITS 0xE0000000u       /* the top three bits of a word that has flags beside a base or a size */
+#define CHECK_TERMINATOR (1u << 31) /* OS_ReadUnsigned's */
+#define CHECK_BYTE (1u << 30)
+#define CHECK_R2 (1u << 29)
+
+enum {
+    READ_UNSIGNED = 0x21,
+    GS_TRANS = 0x27,
+    BINARY_TO_DECIMAL = 0x28,
+    EVALUATE = 0x2D,
+    CONVERT_FIRST = 0xD0,
+    CONVERT_LAST = 0xE8
+};
+
+/* Every range goes through here before the library gets it. The sum of address and length is never formed, so it cannot wrap. */
+static bool is_memory(const struct machine *machine, uint32_t at, uint32_t length)
+{
+    return at <= machine->size && length <= machine->size - at;
+}
+
+static const char *message_of(uint32_t refusal)
+{
+    switch (refusal) {
+    case NOS_NO_ROOM: return "Buffer overflow";
+    case NOS_BAD_BASE: return "Bad base";
+    case NOS_TOO_BIG: return "Number too big";
+    case NOS_NO_DIGIT: case NOS_NOT_ENDED: case NOS_OVER_LIMIT: return "Bad number";
+    case NOS_BAD_CODE: case NOS_BAD_STRING: case NOS_BAD_REFERENCE: return "Bad string";
+    case NOS_UNKNOWN_NAME: return "System variable not found";
+    case NOS_TOO_DEEP: return "Nested too deeply";
+    case NOS_ALLOWANCE_SPENT: return "Too many look-ups";
+    case NOS_BAD_TABLE: return "Bad table of variables";
+    case NOS_BAD_EXPRESSION: return "Bad expression";
+    case NOS_ZERO_DIVISOR: return "Division by zero";
+    case NOS_NOT_AN_INTEGER: return "Not an integer variable";
+    case NOS_OVER_LENGTH: return "Too long";
+    case BAD_ADDRESS: return "Bad address";
+    }
+    return "Refused";
+}
+
+static struct error_block block_of(uint32_t refusal, const char *message)
+{
+    struct error_block block = {.number = ERROR_BASE + refusal};
+    strncpy(block.message, message, MESSAGE_ROOM - 1);
+    return block;
+}
+
+static struct served error(uint32_t refusal, uint32_t need)
+{
+    return (struct served){RAISED, refusal, need, block_of(refusal, message_of(refusal))};
+}
+
+/* A string of the program's, copied out of its memory, with the byte behind it. A copy, since what is lent to be read must not
+ * overlap what is lent to be written, and a program may well have its string translated over itself. */
+struct string {
+    uint8_t bytes[NOS_LONGEST + 2];
+    size_t length;
+};
+
+/* Takes the string at an address up to its byte 0, 10 or 13; false where memory ends before that byte. A string longer than the
+ * library reads is taken with one byte too many, so that the library refuses it. */
+static bool take_string(const struct machine *machine, uint32_t at, struct string *string)
+{
+    for (string->length = 0; string->length <= NOS_LONGEST; string->length++) {
+        if (at >= machine->size || string->length >= machine->size - at) return false;
+        uint8_t byte = machine->memory[at + string->length];
+        string->bytes[string->length] = byte;
+        if (byte == 0 || byte == 10 || byte == 13) return true;
+    }
+    return true;
+}
+
+/* Whether a number says its own base: by "&", or by decimal digits and "_". */
+static bool has_base(const uint8_t *text, size_t length)
+{
+    size_t digits = 0;
+    while (digits < length && text[digits] >= '0' && text[digits] <= '9') digits++;
+    return length > 0 && (text[0] == '&' || (digits > 0 && digits < length && text[digits] == '_'));
+}
+
+struct reading {
+    uint32_t refusal, value;
+    size_t place; /* where accepted: of the first byte not read */
+    bool cut;     /* the reading came to the text's end, and what memory has behind that is unknown */
+};
+
+/* Reads a number whose base is `base` where it says none itself. The library reads such a number as decimal, so that for another
+ * base the text goes to it with "16_" or the like in front. */
+static struct reading read_in_base(const uint8_t *text, size_t length, uint32_t base, uint32_t whole, uint32_t limit)
+{
+    uint8_t lent[NOS_LONGEST];
+    size_t spaces = 0, ahead = 0;
+    while (spaces < length && text[spaces] == ' ') spaces++;
+    if (base >= 2 && base <= 36 && base != 10 && !has_base(text + spaces, length - spaces)) {
+        ahead = nos_place(nos_convert(NOS_UNSIGNED_1, base, lent, sizeof lent));
+        lent[ahead++] = '_';
+    }
+    size_t lent_length = ahead + length - spaces;
+    memcpy(lent + ahead, text + spaces, length - spaces);
+    uint64_t answer = nos_read_unsigned(lent, lent_length, whole, limit);
+    size_t place = nos_place(answer);
+    return (struct reading){nos_number(answer), nos_value(answer), place + spaces - ahead, place == lent_length};
+}
+
+/* &21 OS_ReadUnsigned.
+ *   gives   R0 the base, 2 to 36 (else 10), with flags: bit 31, the byte behind the number must be a space or a control character;
+ *           bit 30, at most 255; bit 29, at most R2. R1 the string's address
+ *   gets    R1 the address of the first byte not read, R2 the value; R0 stays
+ *   errors  Bad number       2 no digit; 5 bit 31's check; 6 bit 30's check
+ *           Bad base         3
+ *           Number too big   4 over 4,294,967,295, of which the book says nothing; 6 bit 29's check, also beside bit 30
+ *           Too long         18 more than 65,531 bytes of spaces and digits: the number's end was not seen
+ *           Bad address      the byte behind the number is no memory
+ * Where the bytes that were looked at end inside a number, it may go on behind them: it is never given as if it were whole. */
+static struct served read_unsigned(const struct machine *machine, struct registers *registers)
+{
+    enum { MOST = NOS_LONGEST - 3 }; /* room for a base and "_" */
+    uint32_t flags = registers->r[0] & FLAG_BITS, base = registers->r[0] & ~FLAG_BITS, at = registers->r[1], limit = NOS_NO_LIMIT;
+    if (at >= machine->size) return error(BAD_ADDRESS, 0);
+    uint32_t left = machine->size - at, length = left < MOST ? left : MOST;
+    if (flags & CHECK_BYTE) limit = 255;
+    if (flags & CHECK_R2 && registers->r[2] < limit) limit = registers->r[2];
+    struct reading reading = read_in_base(machine->memory + at, length, base, flags & CHECK_TERMINATOR, limit);
+    if (reading.cut) return error(length < left ? NOS_OVER_LENGTH : BAD_ADDRESS, 0);
+    if (reading.refusal != NOS_ACCEPTED) {
+        struct served served = error(reading.refusal, 0);
+        if (reading.refusal == NOS_OVER_LIMIT && flags & CHECK_R2) served.error = block_of(NOS_OVER_LIMIT, "Number too big");
+        return served;
+    }
+    registers->r[1] = at + (uint32_t)reading.place;
+    registers->r[2] = reading.value;
+    return (struct served){.ending = SERVED};
+}
+
+/* &27 OS_GSTrans.
+ *   gives   R0 the string's address, R1 the buffer's, R2 its size with the flags in bits 29 to 31
+ *   gets    R0 the address behind the byte that ended the string, R1 the buffer's, R2 the number of bytes given; C clear. At R1+R2
+ *           stands the byte that ended the string (0, 10, 13, or with bit 29 a space): what the book calls the translated string's
+ *           terminator. The size has to have room for it
+ *   short   a buffer that is too short is no error: C set, R1 0, R2 the size plus 1; R0 and every byte of the buffer stay. The
+ *           need, with the terminator, which the library knows nothing of, is in struct served alone
+ *   errors  Bad string 7, 8, 9; Number too big 4; System variable not found 10; Nested too deeply 11; Too many look-ups 12;
+ *           Bad table of variables 13; Too long 18; Bad address: no byte 0, 10 or 13 before memory's end, or the buffer is not all
+ *           memory
+ * After an error C, too, stays as it was. */
+static struct served gs_trans(const struct machine *machine, struct registers *registers)
+{
+    struct string string;
+    uint32_t size = registers->r[2] & ~FLAG_BITS, flags = registers->r[2] & FLAG_BITS, buffer = registers->r[1];
+    if (!take_string(machine, registers->r[0], &string) || !is_memory(machine, buffer, size)) return error(BAD_ADDRESS, 0);
+    size_t room = size > 0 ? size - 1 : 0; /* without the terminator */
+    uint64_t answer = nos_translate(string.bytes, string.length, machine->table, machine->table_length, flags, machine->allowance,
+                                    machine->memory + buffer, room);
+    uint32_t refusal = nos_number(answer), need = (uint32_t)nos_need(answer);
+    if (refusal == NOS_NO_ROOM || (refusal == NOS_ACCEPTED && size == 0)) {
+        registers->r[1] = 0;
+        registers->r[2] = size + 1;
+        registers->carry = true;
+        return (struct served){.ending = SERVED, .refusal = NOS_NO_ROOM, .need = need + 1};
+    }
+    if (refusal != NOS_ACCEPTED) return error(refusal, 0);
+    machine->memory[buffer + need] = string.bytes[nos_place(answer)];
+    registers->r[0] += (uint32_t)nos_place(answer) + 1;
+    registers->r[2] = need;
+    registers->carry = false;
+    return (struct served){.ending = SERVED};
+}
+
+/* &28 OS_BinaryToDecimal.
+ *   gives   R0 the number, R1 the buffer's address, R2 its size
+ *   gets    R2 the number of characters; R0 and R1 stay. The book has no terminator here. The library puts a zero byte behind the
+ *           characters and asks for room for it, and that rule counts: R2 leaves it out, the size has to have it in
+ *   errors  Buffer overflow 1: the buffer stays as it was; the need, with the zero byte, is in struct served alone
+ *           Bad address: the buffer is not all memory */
+static struct served binary_to_decimal(const struct machine *machine, struct registers *registers)
+{
+    uint32_t buffer = registers->r[1], size = registers->r[2];
+    if (!is_memory(machine, buffer, size)) return error(BAD_ADDRESS, 0);
+    uint64_t answer = nos_convert(NOS_DECIMAL, registers->r[0], machine->memory + buffer, size);
+    if (nos_number(answer) != NOS_ACCEPTED) return error(nos_number(answer), (uint32_t)nos_need(answer));
+    registers->r[2] = (uint32_t)nos_place(answer);
+    return (struct served){.ending = SERVED};
+}
+
+/* &2D OS_EvaluateExpression.
+ *   gives   R0 the expression's address; R1 and R2 a buffer for a string, which is not looked at: no integer needs it
+ *   gets    R1 0, for an integer, and R2 its value; R0 stays
+ *   errors  Bad expression 15, also for one with strings; Division by zero 16; Not an integer variable 17; System variable not
+ *           found 10; Nested too deeply 11; Too many look-ups 12; Bad number 2; Bad base 3; Number too big 4; Bad table of
+ *           variables 13; Too long 18; Bad address: no byte 0, 10 or 13 before memory's end */
+static struct served evaluate(const struct machine *machine, struct registers *registers)
+{
+    struct string string;
+    if (!take_string(machine, registers->r[0], &string)) return error(BAD_ADDRESS, 0);
+    uint64_t answer = nos_evaluate(string.bytes, string.length, machine->table, machine->table_length, machine->allowance);
+    if (nos_number(answer) != NOS_ACCEPTED) return error(nos_number(answer), 0);
+    registers->r[1] = 0;
+    registers->r[2] = nos_value(answer); /* as a C number: nos_signed(answer) */
+    return (struct served){.ending = SERVED};
+}
+
+/* &D0 to &E8 OS_Convert...
+ *   gives   R0 the value, R1 the buffer's address, R2 its size
+ *   gets    R0 the buffer's address, R1 that of the zero byte behind the string, R2 the bytes free from the zero byte on
+ *   errors  Buffer overflow 1, as for &28: the book says nothing of a short buffer here
+ *           Bad address: the buffer is not all memory */
+static struct served convert(const struct machine *machine, uint32_t call, struct registers *registers)
+{
+    uint32_t buffer = registers->r[1], size = registers->r[2];
+    if (!is_memory(machine, buffer, size)) return error(BAD_ADDRESS, 0);
+    uint64_t answer = nos_convert(call, registers->r[0], machine->memory + buffer, size);
+    if (nos_number(answer) != NOS_ACCEPTED) return error(nos_number(answer), (uint32_t)nos_need(answer));
+    registers->r[0] = buffer;
+    registers->r[1] = buffer + (uint32_t)nos_place(answer);
+    registers->r[2] = size - (uint32_t)nos_place(answer);
+    return (struct served){.ending = SERVED};
+}
+
+static bool is_mine(uint32_t call)
+{
+    return call == READ_UNSIGNED || call == GS_TRANS || call == BINARY_TO_DECIMAL || call == EVALUATE
+        || (call >= CONVERT_FIRST && call <= CONVERT_LAST);
+}
+
+static struct served serve(const struct machine *machine, uint32_t call, struct registers *registers)
+{
+    switch (call) {
+    case READ_UNSIGNED: return read_unsigned(machine, registers);
+    case GS_TRANS: return gs_trans(machine, registers);
+    case BINARY_TO_DECIMAL: return binary_to_decimal(machine, registers);
+    case EVALUATE: return evaluate(machine, registers);
+    }
+    return convert(machine, call, registers);
+}
+
+static void put_block(uint8_t *at, const struct error_block *block)
+{
+    for (size_t i = 0; i < 4; i++) at[i] = (uint8_t)(block->number >> 8 * i);
+    memcpy(at + 4, block->message, MESSAGE_ROOM);
+}
+
+struct served handle_swi(const struct machine *machine, uint32_t swi, struct registers *registers)
+{
+    uint32_t call = swi & ~X_FORM;
+    if (!is_mine(call)) return (struct served){.ending = NOT_MINE};
+    if (!is_memory(machine, machine->error_at, ERROR_ROOM)) return (struct served){.ending = NO_BLOCK};
+    struct served served = serve(machine, call, registers);
+    registers->overflow = served.ending != SERVED;
+    if (served.ending == SERVED) return served;
+    put_block(machine->memory + machine->error_at, &served.error);
+    registers->r[0] = machine->error_at;
+    if (swi & X_FORM) served.ending = RETURNED;
+    return served;
+}

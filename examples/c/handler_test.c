@@ -1,0 +1,355 @@
+/* Tests of handler.c: a small emulated machine makes every call, and after each one all registers, flags and bytes of memory are
+ * checked. The first thing that is off is named, and ends the test with status 1. */
+#include <inttypes.h>
+#include <stdio.h>
+#include <stdlib.h>
+#include <string.h>
+
+#include "handler.h"
+
+#define X 0x20000u
+#define BIT_29 (1u << 29)
+#define BIT_30 (1u << 30)
+#define BIT_31 (1u << 31)
+#define FAR 0xFFFFFFFFu
+
+/* The memory stands between margins that belong to the host: no call may touch them. */
+enum { MARGIN = 16, SIZE = 0x20000, TEXT = 0x100, BUFFER = 0x800, ERRORS = 0x40 };
+
+static uint8_t host[MARGIN + SIZE + MARGIN], as_it_was[sizeof host];
+static uint8_t *const memory = host + MARGIN;
+static size_t tests;
+
+/* A string Farm, an integer Sum of -1250, a macro Head and a macro Loop that names itself. */
+static uint8_t table[] = {
+    86, 82, 0, 4, 3, 'F', 'a', 'r', 'm', 'A', 's', 'h',
+    86, 82, 1, 3, 4, 'S', 'u', 'm', 0x1E, 0xFB, 0xFF, 0xFF,
+    86, 82, 2, 4, 7, 'H', 'e', 'a', 'd', '<', 'F', 'a', 'r', 'm', '>', '!',
+    86, 82, 2, 4, 6, 'L', 'o', 'o', 'p', '<', 'L', 'o', 'o', 'p', '>',
+};
+
+static const struct machine usual = {host + MARGIN, SIZE, table, sizeof table, 1024, ERRORS};
+
+static void check(bool holds, const char *what, const char *claim)
+{
+    if (holds) return;
+    printf("OFF, %s: this does not hold: %s\n", what, claim);
+    exit(1);
+}
+
+/* A call, and what must come of it. */
+struct test {
+    const char *what;
+    uint32_t swi;
+    const char *text; /* goes to text_at, with no zero byte of its own; NULL: none */
+    uint32_t text_at, r0, r1, r2;
+    struct served served; /* the error's number is left out */
+    uint32_t out0, out1, out2;
+    bool carry;
+    const char *written; /* stands at written_at afterwards, and no other byte changes but those of an error block */
+    uint32_t written_at, length;
+};
+
+static void lay_out(const char *text, uint32_t at)
+{
+    for (size_t i = 0; i < sizeof host; i++) host[i] = (uint8_t)(0x80 + i % 113);
+    memset(memory + SIZE, '\r', MARGIN); /* would end a string that memory does not */
+    if (text != NULL) memcpy(memory + at, text, strlen(text));
+    memcpy(as_it_was, host, sizeof host);
+}
+
+static const char *const endings[] = {"not mine", "served", "returned", "raised", "no error block"};
+
+static void print(const struct test *test, const struct served *served, const struct registers *registers)
+{
+    printf("&%02" PRIX32 " %s: %s", test->swi, test->what, endings[served->ending]);
+    if (served->ending == SERVED)
+        printf(", R0 &%" PRIX32 " R1 &%" PRIX32 " R2 &%" PRIX32 "%s", registers->r[0], registers->r[1], registers->r[2],
+               (test->swi & ~X) != 0x27 ? "" : registers->carry ? ", C set" : ", C clear");
+    if (served->refusal != 0) printf(", refusal %" PRIu32, served->refusal);
+    if (served->need != 0) printf(", need %" PRIu32, served->need);
+    if (served->error.number != 0) printf(", %s", served->error.message);
+    putchar('\n');
+}
+
+/* The block stands in memory as it is in the answer; then it is taken back out of the comparison. */
+static void check_block(const struct machine *machine, const struct test *test, const struct served *served)
+{
+    uint8_t *block = machine->memory + machine->error_at;
+    uint32_t number = block[0] | (uint32_t)block[1] << 8 | (uint32_t)block[2] << 16 | (uint32_t)block[3] << 24;
+    check(number == ERROR_BASE + served->refusal && number == served->error.number, test->what, "the error's number");
+    check(memchr(block + 4, 0, MESSAGE_ROOM) != NULL, test->what, "the message ends in its room");
+    check(strcmp((const char *)block + 4, test->served.error.message) == 0, test->what, "the message in memory");
+    check(memcmp(block + 4, served->error.message, MESSAGE_ROOM) == 0, test->what, "the message in the answer");
+    memcpy(block, as_it_was + (block - host), ERROR_ROOM);
+}
+
+static void check_the_rest(const struct test *test)
+{
+    if (test->written != NULL) {
+        check(memcmp(memory + test->written_at, test->written, test->length) == 0, test->what, "what was written");
+        memcpy(memory + test->written_at, as_it_was + MARGIN + test->written_at, test->length);
+    }
+    check(memcmp(host, as_it_was, sizeof host) == 0, test->what, "every other byte is as it was");
+}
+
+static void run_on(const struct machine *machine, const struct test *test, bool carry)
+{
+    struct registers registers = {.r = {test->r0, test->r1, test->r2}, .carry = carry, .overflow = !carry}, expected = registers;
+    for (size_t i = 3; i < 16; i++) registers.r[i] = expected.r[i] = 0xAB00 + (uint32_t)i;
+    struct served served = handle_swi(machine, test->swi, &registers);
+    bool failed = served.ending == RETURNED || served.ending == RAISED;
+    if (served.ending == SERVED || failed) {
+        expected.r[0] = failed ? machine->error_at : test->out0;
+        expected.r[1] = failed ? test->r1 : test->out1;
+        expected.r[2] = failed ? test->r2 : test->out2;
+        expected.carry = (test->swi & ~X) == 0x27 && !failed ? test->carry : carry;
+        expected.overflow = failed;
+    }
+    print(test, &served, &registers);
+    check(served.ending == test->served.ending, test->what, "the ending");
+    check(served.refusal == test->served.refusal, test->what, "the refusal");
+    check(served.need == test->served.need, test->what, "the need");
+    check(memcmp(registers.r, expected.r, sizeof expected.r) == 0, test->what, "the registers");
+    check(registers.carry == expected.carry && registers.overflow == expected.overflow, test->what, "the flags");
+    if (failed) check_block(machine, test, &served);
+    check_the_rest(test);
+    tests++;
+}
+
+/* Each test with C and V set in turn before it. */
+static void run(const struct machine *machine, const struct test *list, size_t count)
+{
+    for (size_t i = 0; i < count; i++) {
+        lay_out(list[i].text, list[i].text_at);
+        run_on(machine, &list[i], i % 2 == 0);
+    }
+}
+
+#define RUN(list) run(&usual, list, sizeof list / sizeof list[0])
+#define DONE {SERVED, 0, 0, {0}}
+#define FAILS(what, swi, text, text_at, r0, r1, r2, refusal, need, message) \
+    {what, swi, text, text_at, r0, r1, r2, {(swi) & X ? RETURNED : RAISED, refusal, need, {0, message}}, 0, 0, 0, 0, NULL, 0, 0}
+
+static void read_unsigned(void)
+{
+    static const struct test list[] = {
+        {"a decimal number", 0x21, "1048576\r", TEXT, 10, TEXT, 0, DONE, 10, TEXT + 7, 1048576, 0, NULL, 0, 0},
+        {"43AZ in base 10", X + 0x21, "43AZ", TEXT, 10, TEXT, 0, DONE, 10, TEXT + 2, 43, 0, NULL, 0, 0},
+        {"&43AZ in base 10", 0x21, "&43AZ", TEXT, 10, TEXT, 0, DONE, 10, TEXT + 4, 0x43A, 0, NULL, 0, 0},
+        {"  fFg in base 16", 0x21, "  fFg", TEXT, 16, TEXT, 0, DONE, 16, TEXT + 4, 255, 0, NULL, 0, 0},
+        {"zZ in base 36", 0x21, "zZ ", TEXT, 36, TEXT, 0, DONE, 36, TEXT + 2, 1295, 0, NULL, 0, 0},
+        {"2_1102 in base 16", 0x21, "2_1102", TEXT, 16, TEXT, 0, DONE, 16, TEXT + 5, 6, 0, NULL, 0, 0},
+        {"&1F in base 2", 0x21, "&1F ", TEXT, 2, TEXT, 0, DONE, 2, TEXT + 3, 31, 0, NULL, 0, 0},
+        {"12 in base 37, which is 10", 0x21, "12 ", TEXT, 37, TEXT, 0, DONE, 37, TEXT + 2, 12, 0, NULL, 0, 0},
+        {"12 sacks, bit 31", 0x21, "12 sacks", TEXT, BIT_31, TEXT, 0, DONE, BIT_31, TEXT + 2, 12, 0, NULL, 0, 0},
+        FAILS("12kg, bit 31", 0x21, "12kg", TEXT, BIT_31, TEXT, 0, 5, 0, "Bad number"),
+        {"255, bit 30", 0x21, "255 ", TEXT, BIT_30, TEXT, 0, DONE, BIT_30, TEXT + 3, 255, 0, NULL, 0, 0},
+        FAILS("256, bit 30", X + 0x21, "256 ", TEXT, BIT_30, TEXT, 0, 6, 0, "Bad number"),
+        {"100, bit 29, R2 100", 0x21, "100 ", TEXT, BIT_29, TEXT, 100, DONE, BIT_29, TEXT + 3, 100, 0, NULL, 0, 0},
+        FAILS("101, bit 29, R2 100", 0x21, "101 ", TEXT, BIT_29, TEXT, 100, 6, 0, "Number too big"),
+        FAILS("256, bits 29 and 30, R2 300", X + 0x21, "256 ", TEXT, BIT_29 | BIT_30, TEXT, 300, 6, 0, "Number too big"),
+        {"101 without bit 29, R2 100", 0x21, "101 ", TEXT, 0, TEXT, 100, DONE, 0, TEXT + 3, 101, 0, NULL, 0, 0},
+        FAILS("no digit", X + 0x21, "&G", TEXT, 10, TEXT, 0, 2, 0, "Bad number"),
+        FAILS("2 in base 2", 0x21, "2 ", TEXT, 2, TEXT, 0, 2, 0, "Bad number"),
+        FAILS("a bad base", 0x21, "37_1 ", TEXT, 10, TEXT, 0, 3, 0, "Bad base"),
+        FAILS("over 32 bits", X + 0x21, "4294967296 ", TEXT, 10, TEXT, 0, 4, 0, "Number too big"),
+        FAILS("over 32 bits in base 16", 0x21, "100000000 ", TEXT, 16, TEXT, 0, 4, 0, "Number too big"),
+        {"the last bytes of memory", 0x21, "12\r", SIZE - 3, 10, SIZE - 3, 0, DONE, 10, SIZE - 1, 12, 0, NULL, 0, 0},
+        FAILS("digits up to memory's end", X + 0x21, "12", SIZE - 2, 10, SIZE - 2, 0, BAD_ADDRESS, 0, "Bad address"),
+        FAILS("the same in base 16", 0x21, "1F", SIZE - 2, 16, SIZE - 2, 0, BAD_ADDRESS, 0, "Bad address"),
+        FAILS("spaces up to memory's end", 0x21, "  ", SIZE - 2, 10, SIZE - 2, 0, BAD_ADDRESS, 0, "Bad address"),
+        FAILS("behind memory", 0x21, NULL, 0, 10, SIZE, 0, BAD_ADDRESS, 0, "Bad address"),
+        FAILS("far behind memory", X + 0x21, NULL, 0, 10, FAR, 0, BAD_ADDRESS, 0, "Bad address"),
+    };
+    RUN(list);
+}
+
+/* Bits 29 to 31 of R2 are flags. */
+static void gs_trans(void)
+{
+    static const struct test list[] = {
+        {"codes", 0x27, "a|Jb<65>\r", TEXT, TEXT, BUFFER, 64, DONE, TEXT + 9, BUFFER, 4, 0, "a\nbA\r", BUFFER, 5},
+        {"variables", X + 0x27, "<head> <SUM>\n", TEXT, TEXT, BUFFER, 64, DONE, TEXT + 13, BUFFER, 10, 0, "Ash! -1250\n", BUFFER,
+         11},
+        {"the string's length and 1", 0x27, "<head>\r", TEXT, TEXT, BUFFER, 5, DONE, TEXT + 7, BUFFER, 4, 0, "Ash!\r", BUFFER, 5},
+        {"one byte too few", 0x27, "<head>\r", TEXT, TEXT, BUFFER, 4, {SERVED, 1, 5, {0}}, TEXT, 0, 5, 1, NULL, 0, 0},
+        {"no buffer", X + 0x27, "<head>\r", TEXT, TEXT, BUFFER, 0, {SERVED, 1, 5, {0}}, TEXT, 0, 1, 1, NULL, 0, 0},
+        {"no buffer, no string", 0x27, "\r", TEXT, TEXT, BUFFER, 0, {SERVED, 1, 1, {0}}, TEXT, 0, 1, 1, NULL, 0, 0},
+        {"one byte, no string", 0x27, "\r", TEXT, TEXT, BUFFER, 1, DONE, TEXT + 1, BUFFER, 0, 0, "\r", BUFFER, 1},
+        {"a space ends", 0x27, " a b\r", TEXT, TEXT, BUFFER, BIT_29 | 8, DONE, TEXT + 3, BUFFER, 1, 0, "a ", BUFFER, 2},
+        {"quotes", 0x27, "\"a \"\"b\"  \r", TEXT, TEXT, BUFFER, 8, DONE, TEXT + 10, BUFFER, 4, 0, "a \"b\r", BUFFER, 5},
+        {"bars and quotes plain", 0x27, "\"|A\"\r", TEXT, TEXT, BUFFER, BIT_30 | BIT_31 | 8, DONE, TEXT + 5, BUFFER, 4, 0,
+         "\"|A\"\r", BUFFER, 5},
+        {"over itself", 0x27, "x<head>y\r", TEXT, TEXT, TEXT, 16, DONE, TEXT + 9, TEXT, 6, 0, "xAsh!y\r", TEXT, 7},
+        {"over itself, one byte behind", 0x27, "x<head>y\r", TEXT, TEXT, TEXT + 1, 16, DONE, TEXT + 9, TEXT + 1, 6, 0, "xAsh!y\r",
+         TEXT + 1, 7},
+        FAILS("a bad code", X + 0x27, "a|1\r", TEXT, TEXT, BUFFER, 64, 7, 0, "Bad string"),
+        FAILS("an open quote", 0x27, "\"a\r", TEXT, TEXT, BUFFER, 64, 8, 0, "Bad string"),
+        FAILS("an open reference", 0x27, "a<\r", TEXT, TEXT, BUFFER, 64, 9, 0, "Bad string"),
+        FAILS("the same, no buffer", 0x27, "a<\r", TEXT, TEXT, BUFFER, 0, 9, 0, "Bad string"),
+        FAILS("a large number", X + 0x27, "<4294967296>\r", TEXT, TEXT, BUFFER, 64, 4, 0, "Number too big"),
+        FAILS("an unknown name", 0x27, "<x>\r", TEXT, TEXT, BUFFER, 64, 10, 0, "System variable not found"),
+        FAILS("a macro in itself", X + 0x27, "<loop>\r", TEXT, TEXT, BUFFER, 64, 11, 0, "Nested too deeply"),
+        {"the last bytes of memory", 0x27, "<sum>\r", SIZE - 6, SIZE - 6, BUFFER, 6, DONE, SIZE, BUFFER, 5, 0, "-1250\r", BUFFER,
+         6},
+        {"into the last bytes of memory", 0x27, "<sum>\r", TEXT, TEXT, SIZE - 6, 6, DONE, TEXT + 6, SIZE - 6, 5, 0, "-1250\r",
+         SIZE - 6, 6},
+        FAILS("a buffer that ends behind them", 0x27, "<sum>\r", TEXT, TEXT, SIZE - 6, 7, BAD_ADDRESS, 0, "Bad address"),
+        FAILS("a buffer that wraps around", X + 0x27, "<sum>\r", TEXT, TEXT, FAR, 8, BAD_ADDRESS, 0, "Bad address"),
+        FAILS("a string that memory cuts off", 0x27, "<sum>", SIZE - 5, SIZE - 5, BUFFER, 64, BAD_ADDRESS, 0, "Bad address"),
+        FAILS("a string behind memory", 0x27, NULL, 0, FAR, BUFFER, 64, BAD_ADDRESS, 0, "Bad address"),
+    };
+    RUN(list);
+}
+
+static void binary_to_decimal(void)
+{
+    static const struct test list[] = {
+        {"-7", 0x28, NULL, 0, (uint32_t)-7, BUFFER, 16, DONE, (uint32_t)-7, BUFFER, 2, 0, "-7", BUFFER, 3},
+        {"the most that is needed", X + 0x28, NULL, 0, BIT_31, BUFFER, 12, DONE, BIT_31, BUFFER, 11, 0, "-2147483648", BUFFER, 12},
+        FAILS("no room for the zero byte", 0x28, NULL, 0, (uint32_t)-7, BUFFER, 2, 1, 3, "Buffer overflow"),
+        FAILS("no buffer", X + 0x28, NULL, 0, 96, BUFFER, 0, 1, 3, "Buffer overflow"),
+        {"into the last bytes of memory", 0x28, NULL, 0, 96, SIZE - 3, 3, DONE, 96, SIZE - 3, 2, 0, "96", SIZE - 3, 3},
+        FAILS("a buffer that ends behind them", 0x28, NULL, 0, 96, SIZE - 3, 4, BAD_ADDRESS, 0, "Bad address"),
+        FAILS("a buffer that wraps around", 0x28, NULL, 0, 96, FAR, FAR, BAD_ADDRESS, 0, "Bad address"),
+    };
+    RUN(list);
+}
+
+/* R1 and R2 are no buffer of memory: integers need none. */
+static void evaluate(void)
+{
+    static const struct test list[] = {
+        {"a sum", 0x2D, "2147483647+1\r", TEXT, TEXT, FAR, FAR, DONE, TEXT, 0, BIT_31, 0, NULL, 0, 0},
+        FAILS("a string with no end", X + 0x2D, "-7 MOD 2", TEXT, TEXT, BUFFER, 8, 18, 0, "Too long"),
+        {"-7 MOD 2", X + 0x2D, "-7 MOD 2\n", TEXT, TEXT, BUFFER, 8, DONE, TEXT, 0, (uint32_t)-1, 0, NULL, 0, 0},
+        {"a variable", 0x2D, "(sum+1250)=0\r", TEXT, TEXT, BUFFER, 8, DONE, TEXT, 0, (uint32_t)-1, 0, NULL, 0, 0},
+        FAILS("a string", 0x2D, "\"HI\"\r", TEXT, TEXT, BUFFER, 8, 15, 0, "Bad expression"),
+        FAILS("nothing", 0x2D, "\r", TEXT, TEXT, BUFFER, 8, 15, 0, "Bad expression"),
+        FAILS("over zero", X + 0x2D, "1/0\r", TEXT, TEXT, BUFFER, 8, 16, 0, "Division by zero"),
+        FAILS("a string variable", 0x2D, "farm+1\r", TEXT, TEXT, BUFFER, 8, 17, 0, "Not an integer variable"),
+        FAILS("an unknown name", 0x2D, "x\r", TEXT, TEXT, BUFFER, 8, 10, 0, "System variable not found"),
+        FAILS("17 brackets", X + 0x2D, "(((((((((((((((((1\r", TEXT, TEXT, BUFFER, 8, 11, 0, "Nested too deeply"),
+        FAILS("no digit", 0x2D, "&\r", TEXT, TEXT, BUFFER, 8, 2, 0, "Bad number"),
+        FAILS("a bad base", 0x2D, "37_1\r", TEXT, TEXT, BUFFER, 8, 3, 0, "Bad base"),
+        FAILS("over 32 bits", 0x2D, "4294967296\r", TEXT, TEXT, BUFFER, 8, 4, 0, "Number too big"),
+        {"the last bytes of memory", 0x2D, "6*7\r", SIZE - 4, SIZE - 4, BUFFER, 8, DONE, SIZE - 4, 0, 42, 0, NULL, 0, 0},
+        FAILS("a string that memory cuts off", 0x2D, "6*7", SIZE - 3, SIZE - 3, BUFFER, 8, BAD_ADDRESS, 0, "Bad address"),
+        FAILS("a string behind memory", X + 0x2D, NULL, 0, SIZE, BUFFER, 8, BAD_ADDRESS, 0, "Bad address"),
+    };
+    RUN(list);
+}
+
+/* Each of the 25 calls, of -96: the need exactly, at the end of memory, and one byte too few. */
+static void conversions(void)
+{
+    static const char *const strings[] = {
+        "0", "A0", "FFA0", "FFFFA0", "FFFFFFA0", "160", "65440", "16777120", "4294967200", "-96", "-96", "-96", "-96",
+        "10100000", "1111111110100000", "111111111111111110100000", "11111111111111111111111110100000",
+        "160", "65 440", "16 777 120", "4 294 967 200", "-96", "-96", "-96", "-96",
+    };
+    for (uint32_t i = 0; i < sizeof strings / sizeof strings[0]; i++) {
+        uint32_t need = (uint32_t)strlen(strings[i]) + 1, at = SIZE - need, value = (uint32_t)-96;
+        const struct test list[] = {
+            {strings[i], 0xD0 + i, NULL, 0, value, at, need, DONE, at, SIZE - 1, 1, 0, strings[i], at, need},
+            FAILS("one byte too few", 0xD0 + i, NULL, 0, value, BUFFER, need - 1, 1, need, "Buffer overflow"),
+        };
+        RUN(list);
+    }
+    static const struct test list[] = {
+        {"room to spare", X + 0xE4, NULL, 0, 1048576, BUFFER, 64, DONE, BUFFER, BUFFER + 9, 55, 0, "1 048 576", BUFFER, 10},
+        FAILS("no buffer", X + 0xE4, NULL, 0, 1048576, BUFFER, 0, 1, 10, "Buffer overflow"),
+        FAILS("no buffer, at memory's end", 0xE4, NULL, 0, 1048576, SIZE, 0, 1, 10, "Buffer overflow"),
+        FAILS("a buffer that ends behind memory", 0xD8, NULL, 0, 96, SIZE - 9, 10, BAD_ADDRESS, 0, "Bad address"),
+        FAILS("a buffer behind memory", X + 0xD8, NULL, 0, 96, SIZE + 1, 0, BAD_ADDRESS, 0, "Bad address"),
+        FAILS("a buffer that wraps around", 0xD8, NULL, 0, 96, 0x80000000u, 0x80000010u, BAD_ADDRESS, 0, "Bad address"),
+    };
+    RUN(list);
+}
+
+/* Other calls are left alone, though the registers would do. */
+static void others(void)
+{
+    static const uint32_t swis[] = {0x00, 0x20, 0x22, 0x26, 0x29, 0x2C, 0x2E, 0xCF, 0xE9, X + 0xE9, 0x400D8, 0x10027, 0xFFFFFF};
+    for (size_t i = 0; i < sizeof swis / sizeof swis[0]; i++) {
+        const struct test list[] = {{"another call", swis[i], "1\r", TEXT, TEXT, BUFFER, 64, {0}, 0, 0, 0, 0, NULL, 0, 0}};
+        RUN(list);
+    }
+}
+
+/* What the host lends decides too: the table, the allowance, the place for errors. */
+static void hosts(void)
+{
+    static const struct test spent[] = {
+        FAILS("three look-ups of two", 0x27, "<head><sum>\r", TEXT, TEXT, BUFFER, 64, 12, 0, "Too many look-ups"),
+        FAILS("three look-ups of two", X + 0x2D, "sum+sum+sum\r", TEXT, TEXT, BUFFER, 64, 12, 0, "Too many look-ups"),
+    };
+    static const struct test bad[] = {
+        FAILS("a bad table", 0x27, "a\r", TEXT, TEXT, BUFFER, 64, 13, 0, "Bad table of variables"),
+        FAILS("a bad table", X + 0x2D, "1\r", TEXT, TEXT, BUFFER, 64, 13, 0, "Bad table of variables"),
+    };
+    static const struct test empty = {"no table", 0x27, "<65>\r", TEXT, TEXT, BUFFER, 64, DONE, TEXT + 5, BUFFER, 1, 0, "A\r",
+                                      BUFFER, 2};
+    static const struct test no_block[] = {
+        {"no place for errors", 0x28, NULL, 0, 96, BUFFER, 64, {NO_BLOCK, 0, 0, {0}}, 0, 0, 0, 0, NULL, 0, 0},
+        {"no place for errors", X + 0x28, NULL, 0, 96, BUFFER, 0, {NO_BLOCK, 0, 0, {0}}, 0, 0, 0, 0, NULL, 0, 0},
+    };
+    static const struct test at_the_end = FAILS("errors at memory's end", 0x28, NULL, 0, 96, BUFFER, 0, 1, 3, "Buffer overflow");
+    struct machine machine = usual;
+    machine.allowance = 2;
+    run(&machine, spent, 2);
+    machine.table_length--;
+    run(&machine, bad, 2);
+    machine.table = NULL;
+    machine.table_length = 0;
+    run(&machine, &empty, 1);
+    machine.error_at = SIZE - ERROR_ROOM + 1;
+    run(&machine, no_block, 2);
+    machine.error_at = SIZE - ERROR_ROOM;
+    run(&machine, &at_the_end, 1);
+}
+
+/* Strings of the longest length that is read, and one byte more: spaces, `last` as the last byte, and a return behind it. */
+static void run_long(const struct test *test, uint32_t length, char last)
+{
+    lay_out(NULL, 0);
+    memset(memory + TEXT, ' ', length);
+    memory[TEXT + length - 1] = (uint8_t)last;
+    memory[TEXT + length] = '\r';
+    memcpy(as_it_was, host, sizeof host);
+    run_on(&usual, test, true);
+}
+
+static void long_strings(void)
+{
+    enum { NUMBER = NOS_LONGEST - 4, LAST = 0x1F000 };
+    static const struct test list[] = {
+        {"65530 spaces and 7", 0x21, NULL, 0, 10, TEXT, 0, DONE, 10, TEXT + NUMBER, 7, 0, NULL, 0, 0},
+        FAILS("65531 spaces and 7", 0x21, NULL, 0, 10, TEXT, 0, 18, 0, "Too long"),
+        {"65535 spaces", 0x27, NULL, 0, TEXT, LAST, 1, DONE, TEXT + NOS_LONGEST + 1, LAST, 0, 0, "\r", LAST, 1},
+        FAILS("65536 spaces", 0x27, NULL, 0, TEXT, LAST, 1, 18, 0, "Too long"),
+        {"65534 spaces and 7", 0x2D, NULL, 0, TEXT, 0, 0, DONE, TEXT, 0, 7, 0, NULL, 0, 0},
+        FAILS("65535 spaces and 7", X + 0x2D, NULL, 0, TEXT, 0, 0, 18, 0, "Too long"),
+    };
+    run_long(&list[0], NUMBER, '7');
+    run_long(&list[1], NUMBER + 1, '7');
+    run_long(&list[2], NOS_LONGEST, ' ');
+    run_long(&list[3], NOS_LONGEST + 1, ' ');
+    run_long(&list[4], NOS_LONGEST, '7');
+    run_long(&list[5], NOS_LONGEST + 1, '7');
+}
+
+int main(void)
+{
+    read_unsigned();
+    gs_trans();
+    binary_to_decimal();
+    evaluate();
+    conversions();
+    others();
+    hosts();
+    long_strings();
+    printf("%zu calls, nothing is off\n", tests);
+    return 0;
+}

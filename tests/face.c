@@ -1,0 +1,308 @@
+/* Answers cases through the C face: a line of case in, a line of answer out, both as the oracle has them. tests/fuzz runs it.
+ *
+ * Whatever is lent is watched. A slice stands, in turn, between known bytes, or at the start or the end of an area where an
+ * unreadable page begins: a byte read or written there ends this program. An answer has " touched" behind it where a byte changed
+ * that must not: in a text or a table, beside a slice, in a buffer behind what was written, or anywhere in one after a refusal. It
+ * has " odd" behind it where a part of the 64-bit answer that the line does not show is not as the header says. */
+#define _GNU_SOURCE
+#include <inttypes.h>
+#include <stdbool.h>
+#include <stdio.h>
+#include <stdlib.h>
+#include <string.h>
+#include <sys/mman.h>
+#include <unistd.h>
+
+#include "nosgoludd.h"
+
+enum { AREA = 1 << 20, GUARD = 64, TURNS = 251, MOST_ROOM = AREA - 2 * GUARD };
+
+struct area {
+    uint8_t *start, *lent;
+    size_t length;
+    const char *digits; /* what was lent to be read, in hex; NULL for a buffer */
+};
+
+static struct area text, table, buffer;
+static uint8_t known[AREA + TURNS]; /* the known bytes, read from another place for each case */
+static size_t turn;
+
+static void make_area(struct area *area)
+{
+    size_t page = (size_t)sysconf(_SC_PAGESIZE);
+    uint8_t *made = mmap(NULL, AREA + 2 * page, PROT_READ | PROT_WRITE, MAP_PRIVATE | MAP_ANONYMOUS, -1, 0);
+    if (made == MAP_FAILED || mprotect(made, page, PROT_NONE) || mprotect(made + page + AREA, page, PROT_NONE)) {
+        perror("face");
+        exit(2);
+    }
+    area->start = made + page;
+}
+
+static const uint8_t *known_at(const struct area *area, const uint8_t *place)
+{
+    return known + turn % TURNS + (place - area->start);
+}
+
+static const uint8_t *watched_from(const struct area *area)
+{
+    return area->lent - area->start < GUARD ? area->start : area->lent - GUARD;
+}
+
+static const uint8_t *watched_to(const struct area *area)
+{
+    const uint8_t *behind = area->lent + area->length, *end = area->start + AREA;
+    return end - behind < GUARD ? end : behind + GUARD;
+}
+
+/* Lends so many bytes of an area, all of them and those beside them known ones. */
+static void lend(struct area *area, size_t length)
+{
+    static const size_t in_turn[] = {GUARD, 0, AREA};
+    size_t at = in_turn[turn % 3];
+    area->length = length;
+    area->lent = area->start + (at == AREA ? AREA - length : at);
+    const uint8_t *from = watched_from(area), *to = watched_to(area);
+    memcpy(area->start + (from - area->start), known_at(area, from), (size_t)(to - from));
+}
+
+/* The pointer that the library gets. Nothing is lent by NULL in one turn of three. */
+static uint8_t *lent_by(const struct area *area) { return area->length == 0 && turn % 3 == 1 ? NULL : area->lent; }
+
+static bool is_known(const struct area *area, const uint8_t *from, const uint8_t *to)
+{
+    return memcmp(from, known_at(area, from), (size_t)(to - from)) == 0;
+}
+
+/* Whether all but the first bytes of a buffer, and the bytes beside it, are as they were. */
+static bool is_whole_behind(const struct area *area, size_t written)
+{
+    return is_known(area, watched_from(area), area->lent) && is_known(area, area->lent + written, watched_to(area));
+}
+
+static int digit_of(char c) { return c >= '0' && c <= '9' ? c - '0' : c >= 'a' && c <= 'f' ? c - 'a' + 10 : -1; }
+
+static int byte_of(const char *pair)
+{
+    int high = digit_of(pair[0]), low = high < 0 ? -1 : digit_of(pair[1]);
+    return low < 0 ? -1 : high * 16 + low;
+}
+
+/* Whether what was lent to be read is still there, and the bytes beside it. */
+static bool is_whole(const struct area *area)
+{
+    for (size_t i = 0; i < area->length; i++)
+        if (area->lent[i] != byte_of(area->digits + 2 * i)) return false;
+    return is_whole_behind(area, area->length);
+}
+
+/* How far a line is read; at a bad field `at` becomes NULL and stays so. A space stands before each field. */
+struct line {
+    const char *at;
+};
+
+static uint32_t take_number(struct line *line)
+{
+    uint64_t value = 0;
+    const char *at = line->at;
+    line->at = NULL;
+    if (at == NULL || *at++ != ' ' || *at < '0' || *at > '9') return 0;
+    while (*at >= '0' && *at <= '9' && value <= UINT32_MAX) value = value * 10 + (uint64_t)(*at++ - '0');
+    if (value <= UINT32_MAX) line->at = at;
+    return (uint32_t)value;
+}
+
+static uint32_t take_limit(struct line *line)
+{
+    if (line->at == NULL || strncmp(line->at, " -", 2) != 0) return take_number(line);
+    line->at += 2;
+    return NOS_NO_LIMIT;
+}
+
+/* Lends a field's bytes. */
+static void take_bytes(struct line *line, struct area *area)
+{
+    if (line->at == NULL || *line->at != ' ') {
+        line->at = NULL;
+        return;
+    }
+    area->digits = line->at + 1;
+    size_t digits = strcspn(area->digits, " "), count = digits == 1 && *area->digits == '-' ? 0 : digits / 2;
+    line->at = area->digits + digits;
+    if ((count > 0 || *area->digits != '-') && (digits % 2 != 0 || count == 0 || count > MOST_ROOM)) line->at = NULL;
+    if (line->at == NULL) return;
+    lend(area, count);
+    for (size_t i = 0; i < count; i++) {
+        int byte = byte_of(area->digits + 2 * i);
+        if (byte < 0) {
+            line->at = NULL;
+            return;
+        }
+        area->lent[i] = (uint8_t)byte;
+    }
+}
+
+static bool is_done(const struct line *line) { return line->at != NULL && *line->at == 0; }
+
+static void put_hex(const uint8_t *bytes, size_t count)
+{
+    static const char digits[] = "0123456789abcdef";
+    if (count == 0) putchar('-');
+    for (size_t i = 0; i < count; i++) {
+        putchar(digits[bytes[i] >> 4]);
+        putchar(digits[bytes[i] & 15]);
+    }
+}
+
+/* Ends the line of an answer; true, as for every line that is a case. */
+static bool end_line(bool whole, bool as_said)
+{
+    puts(!whole ? " touched" : !as_said ? " odd" : "");
+    return true;
+}
+
+/* Each operation writes the line of answer, or answers false for a line that is no case. */
+
+static bool conv(struct line line)
+{
+    uint32_t call = take_number(&line), value = take_number(&line), room = take_number(&line);
+    if (!is_done(&line) || room > MOST_ROOM) return false;
+    lend(&buffer, room);
+    uint64_t answer = nos_convert(call, value, lent_by(&buffer), room);
+    size_t place = nos_place(answer), need = nos_need(answer);
+    if (nos_number(answer) != NOS_ACCEPTED) {
+        printf("no %" PRIu32 " %zu %zu %" PRIu32, nos_number(answer), place, need, room);
+        return end_line(is_whole_behind(&buffer, 0), nos_counted(answer) == NOS_IN_THE_TEXT);
+    }
+    if (place >= room) return end_line(false, false);
+    printf("ok ");
+    put_hex(buffer.lent, place);
+    printf(" %zu %zu", place, room - place);
+    return end_line(is_whole_behind(&buffer, place + 1),
+                    buffer.lent[place] == 0 && need == place + 1 && nos_counted(answer) == NOS_IN_THE_TEXT);
+}
+
+static bool read_number(struct line line)
+{
+    static const uint32_t other_than_0[] = {1, 1u << 31, UINT32_MAX};
+    take_bytes(&line, &text);
+    uint32_t whole = take_number(&line), limit = take_limit(&line);
+    if (!is_done(&line) || whole > 1) return false;
+    uint64_t answer = nos_read_unsigned(lent_by(&text), text.length, whole ? other_than_0[turn % 3] : 0, limit);
+    bool as_said = nos_counted(answer) == NOS_IN_THE_TEXT;
+    if (nos_number(answer) == NOS_ACCEPTED) {
+        printf("val %" PRIu32 " %zu", nos_value(answer), nos_place(answer));
+    } else {
+        printf("no %" PRIu32 " %zu", nos_number(answer), nos_place(answer));
+        as_said = as_said && nos_value(answer) == 0;
+    }
+    return end_line(is_whole(&text), as_said);
+}
+
+static bool check(struct line line)
+{
+    take_bytes(&line, &table);
+    if (!is_done(&line)) return false;
+    uint64_t answer = nos_check_table(lent_by(&table), table.length);
+    bool as_said = nos_counted(answer) == NOS_IN_THE_TABLE;
+    if (nos_number(answer) == NOS_ACCEPTED) {
+        printf("ok %" PRIu32, nos_value(answer));
+        as_said = as_said && nos_place(answer) == 0;
+    } else {
+        printf("no %" PRIu32 " %zu", nos_number(answer), nos_place(answer));
+        as_said = as_said && nos_value(answer) == 0;
+    }
+    return end_line(is_whole(&table), as_said);
+}
+
+/* The line does not tell a bad table from an unknown name; the answer does. */
+static bool look(struct line line)
+{
+    take_bytes(&line, &table);
+    take_bytes(&line, &text);
+    if (!is_done(&line)) return false;
+    uint64_t answer = nos_look_up(lent_by(&table), table.length, lent_by(&text), text.length);
+    uint64_t checked = nos_check_table(lent_by(&table), table.length);
+    bool as_said = nos_counted(answer) == NOS_IN_THE_TABLE;
+    if (nos_number(answer) == NOS_ACCEPTED) {
+        size_t place = nos_place(answer), length = table.lent[place + 4];
+        printf("rec %zu %" PRIu32 " ", place, nos_value(answer));
+        put_hex(table.lent + place + 5 + table.lent[place + 3], length);
+    } else {
+        printf("none");
+        uint64_t unknown = NOS_UNKNOWN_NAME | NOS_IN_THE_TABLE << 8;
+        as_said = answer == (nos_number(checked) == NOS_ACCEPTED ? unknown : checked);
+    }
+    return end_line(is_whole(&table) && is_whole(&text), as_said);
+}
+
+static char counted_in(uint64_t answer) { return nos_counted(answer) == NOS_IN_THE_TABLE ? 'r' : 't'; }
+
+static bool trans(struct line line)
+{
+    take_bytes(&line, &text);
+    take_bytes(&line, &table);
+    uint32_t flags = take_number(&line), allowance = take_number(&line), room = take_number(&line);
+    if (!is_done(&line) || room > MOST_ROOM) return false;
+    lend(&buffer, room);
+    uint64_t answer = nos_translate(lent_by(&text), text.length, lent_by(&table), table.length, flags, allowance, lent_by(&buffer),
+                                    room);
+    size_t place = nos_place(answer), need = nos_need(answer), written = 0;
+    bool as_said = nos_counted(answer) <= NOS_IN_THE_TABLE;
+    if (nos_number(answer) == NOS_ACCEPTED) {
+        written = need <= room ? need : room;
+        printf("ok ");
+        put_hex(buffer.lent, written);
+        printf(" %zu %zu %zu", place, need, room - written);
+        as_said = nos_counted(answer) == NOS_IN_THE_TEXT;
+    } else {
+        printf("no %" PRIu32 " %c %zu %zu %" PRIu32, nos_number(answer), counted_in(answer), place, need, room);
+    }
+    return end_line(is_whole(&text) && is_whole(&table) && is_whole_behind(&buffer, written), as_said);
+}
+
+static bool eval(struct line line)
+{
+    take_bytes(&line, &text);
+    take_bytes(&line, &table);
+    uint32_t allowance = take_number(&line);
+    if (!is_done(&line)) return false;
+    uint64_t answer = nos_evaluate(lent_by(&text), text.length, lent_by(&table), table.length, allowance);
+    bool as_said = nos_counted(answer) <= NOS_IN_THE_TABLE;
+    if (nos_number(answer) == NOS_ACCEPTED) {
+        printf("val %" PRId64 " %zu", nos_signed(answer), nos_place(answer));
+        as_said = nos_counted(answer) == NOS_IN_THE_TEXT;
+    } else {
+        printf("no %" PRIu32 " %c %zu", nos_number(answer), counted_in(answer), nos_place(answer));
+        as_said = as_said && nos_value(answer) == 0;
+    }
+    return end_line(is_whole(&text) && is_whole(&table), as_said);
+}
+
+static bool answer_line(const char *line)
+{
+    static const struct { const char *word; bool (*answer)(struct line); } operations[] = {
+        {"conv ", conv}, {"read ", read_number}, {"table ", check}, {"look ", look}, {"trans ", trans}, {"eval ", eval},
+    };
+    for (size_t i = 0; i < sizeof operations / sizeof operations[0]; i++) {
+        size_t length = strlen(operations[i].word);
+        if (strncmp(line, operations[i].word, length) == 0) return operations[i].answer((struct line){line + length - 1});
+    }
+    return false;
+}
+
+int main(void)
+{
+    make_area(&text);
+    make_area(&table);
+    make_area(&buffer);
+    for (size_t i = 0; i < sizeof known; i++) known[i] = (uint8_t)(0x5A + i * 167 + i / 256 * 59);
+    setvbuf(stdout, NULL, _IOLBF, 1 << 16); /* so that the last answer shows which case ended the program */
+    char *line = NULL;
+    size_t size = 0;
+    for (ssize_t length; (length = getline(&line, &size, stdin)) > 0; turn++) {
+        if (line[length - 1] == '\n') line[--length] = 0;
+        if (strlen(line) != (size_t)length || !answer_line(line)) puts("bad line");
+    }
+    free(line);
+    return ferror(stdin) || fflush(stdout) || ferror(stdout) ? 2 : 0;
+}
