@@ -8,3 +8,4 @@ pub mod Chains
 pub mod Operands
 pub mod Limits
 pub mod Orders
+pub mod Firsts
