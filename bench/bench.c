@@ -87,6 +87,12 @@ static void measure(const struct work *w, struct times *t)
             }
 }
 
+/* Whether a work was timed in this run. */
+static int is_timed(size_t i)
+{
+    return times[i].of[1][PROVED][0] > 0;
+}
+
 static int by_size(const void *a, const void *b)
 {
     double x = *(const double *)a, y = *(const double *)b;
@@ -122,8 +128,9 @@ static void print_ratio(const struct times *t, size_t side)
 /* How the proved library's time stands to each other side's, at the larger scale. */
 static void print_ratios(void)
 {
-    printf("| work | proved, us: median (least) | of plain C, clang | of plain C, gcc | of a call of C's |\n|---|---|---|---|---|\n");
+    printf("| work | proved, µs: median (least) | of plain C, clang | of plain C, gcc | of a call of C's |\n|---|---|---|---|---|\n");
     for (size_t i = 0; i < work_count; i++) {
+        if (!is_timed(i)) continue;
         struct spread s = spread_of(times[i].of[1][PROVED]);
         printf("| %s | %.2f (%.2f) |", works[i].name, s.median / 1000, s.least / 1000);
         print_ratio(times + i, CLANG);
@@ -143,6 +150,7 @@ static void print_growth(void)
 {
     printf("\n| work | doubled | proved | plain C, clang | plain C, gcc |\n|---|---|---|---|---|\n");
     for (size_t i = 0; i < work_count; i++) {
+        if (!is_timed(i)) continue;
         printf("| %s | %s |", works[i].name, works[i].doubled);
         for (size_t side = PROVED; side <= GCC; side++) {
             struct spread s = quotients(times[i].of[1][side], times[i].of[0][side]);
@@ -158,7 +166,7 @@ static void print_lines(void)
     static const char *const names[] = {"proved", "plain-clang", "plain-gcc", "call"};
     printf("\n");
     for (size_t i = 0; i < work_count; i++) {
-        for (size_t side = 0; side < sides_of(&works[i]); side++) {
+        for (size_t side = 0; is_timed(i) && side < sides_of(&works[i]); side++) {
             struct spread t = spread_of(times[i].of[1][side]), g = quotients(times[i].of[1][side], times[i].of[0][side]);
             struct spread r = quotients(times[i].of[1][PROVED], times[i].of[1][side]);
             const char *name = side == RIVAL ? works[i].rival : names[side];
@@ -188,7 +196,7 @@ int main(int argc, char **argv)
         if (argc > 1 && !strstr(works[i].name, argv[1])) continue;
         make(&works[i]);
         measure(&works[i], &times[i]);
-        fprintf(stderr, "%s: done\n", works[i].name);
+        fprintf(stderr, "bench: timed %s\n", works[i].name);
     }
     print_ratios();
     print_growth();
