@@ -61,7 +61,8 @@ static void check(const struct work *w, struct input *in)
         memset(in->out, 0xEE, ROOM);
         uint64_t other = run_side(w, side, in);
         if (first == other && memcmp(wanted, in->out, ROOM) == 0) continue;
-        fprintf(stderr, "%s: side %zu answers otherwise, %llx for %llx\n", w->name, side, (unsigned long long)other, (unsigned long long)first);
+        fprintf(stderr, "%s: side %zu answers otherwise, %llx for %llx\n", w->name, side, (unsigned long long)other,
+                (unsigned long long)first);
         exit(1);
     }
     /* Of many answers too: a sum of accepted ones has this byte 0. */

@@ -66,7 +66,8 @@ void check_changed(const struct work *w, struct input *in, const struct calls *c
             ask(sets[s], &a, others, left);
             if (memcmp(first, others, sizeof first) == 0 && memcmp(wanted, left, sizeof left) == 0) continue;
             fprintf(stderr, "%s: %s and %s differ over a changed input:\n", w->name, sets[0]->name, sets[s]->name);
-            for (int j = 0; j < 5; j++) fprintf(stderr, "  %016llx %016llx\n", (unsigned long long)first[j], (unsigned long long)others[j]);
+            for (int j = 0; j < 5; j++)
+                fprintf(stderr, "  %016llx %016llx\n", (unsigned long long)first[j], (unsigned long long)others[j]);
             fprintf(stderr, "  flags %x allowance %u text %.*s\n", a.flags, a.allowance, (int)a.length, (const char *)a.text);
             exit(1);
         }
