@@ -40,7 +40,7 @@ uint64_t by_strtoul(struct input *in);
 uint64_t by_memcpy(struct input *in);
 uint64_t by_hash(struct input *in);
 
-/* Every set answers changed inputs, most of them refused, as the first does; ends the program otherwise. */
+/* Every set answers changed inputs as the first does; ends the program otherwise. */
 void check_changed(const struct work *w, struct input *in, const struct calls *const *sets, size_t count);
 
 #endif
