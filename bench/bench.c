@@ -1,0 +1,206 @@
+/* Times the proved library against the same work in plain C and against calls of the C library, in one run. Before that every answer
+ * and every byte written is compared. It writes two tables, and behind them lines for bench/plot. */
+#define _POSIX_C_SOURCE 200809L
+#include "inputs.h"
+#include "nosgoludd.h"
+
+#include <stdio.h>
+#include <stdlib.h>
+#include <string.h>
+#include <time.h>
+
+enum { REPEATS = 15, SIDES = 4, PROVED = 0, CLANG = 1, GCC = 2, RIVAL = 3 };
+static const double least = 20e6; /* nanoseconds of one sample */
+
+static const struct calls proved = {
+    "proved", nos_convert, nos_read_unsigned, nos_check_table, nos_translate, nos_evaluate,
+};
+static const struct calls *const sets[] = {&proved, &plain_by_clang, &plain_by_gcc};
+
+/* Nanoseconds of one pass, by scale, side and repeat. */
+struct times {
+    double of[2][SIDES][REPEATS];
+};
+
+static struct input inputs[2];
+static struct times times[64];
+
+static double now(void)
+{
+    struct timespec t;
+    clock_gettime(CLOCK_THREAD_CPUTIME_ID, &t);
+    return 1e9 * (double)t.tv_sec + (double)t.tv_nsec;
+}
+
+static uint64_t run_side(const struct work *w, size_t side, struct input *in)
+{
+    return side == RIVAL ? w->run_rival(in) : w->run(sets[side], in);
+}
+
+static double sample(const struct work *w, size_t side, struct input *in, unsigned long passes)
+{
+    volatile uint64_t kept = 0;
+    double start = now();
+    for (unsigned long i = 0; i < passes; i++) kept += run_side(w, side, in);
+    return now() - start;
+}
+
+static size_t sides_of(const struct work *w)
+{
+    return w->run_rival ? SIDES : SIDES - 1;
+}
+
+/* Every side's answer and the bytes that it wrote are those of the proved library. */
+static void check(const struct work *w, struct input *in)
+{
+    static uint8_t wanted[ROOM];
+    memset(in->out, 0xEE, ROOM);
+    uint64_t first = run_side(w, PROVED, in);
+    memcpy(wanted, in->out, ROOM);
+    for (size_t side = 1; side < sides_of(w); side++) {
+        memset(in->out, 0xEE, ROOM);
+        uint64_t other = run_side(w, side, in);
+        if (first == other && memcmp(wanted, in->out, ROOM) == 0) continue;
+        fprintf(stderr, "%s: side %zu answers otherwise, %llx for %llx\n", w->name, side, (unsigned long long)other,
+                (unsigned long long)first);
+        exit(1);
+    }
+    /* Of many answers too: a sum of accepted ones has this byte 0. */
+    if (nos_number(first) == 0) return;
+    fprintf(stderr, "%s: refused %u at %zu, and what is timed should be accepted\n", w->name, nos_number(first), nos_place(first));
+    exit(1);
+}
+
+static void measure(const struct work *w, struct times *t)
+{
+    unsigned long passes[2][SIDES];
+    for (size_t scale = 0; scale < 2; scale++) {
+        for (size_t side = 0; side < sides_of(w); side++) {
+            passes[scale][side] = 1;
+            while (sample(w, side, &inputs[scale], passes[scale][side]) < least) passes[scale][side] *= 2;
+        }
+    }
+    for (size_t repeat = 0; repeat < REPEATS; repeat++)
+        for (size_t scale = 0; scale < 2; scale++)
+            for (size_t side = 0; side < sides_of(w); side++) {
+                unsigned long n = passes[scale][side];
+                t->of[scale][side][repeat] = sample(w, side, &inputs[scale], n) / (double)n;
+            }
+}
+
+/* Whether a work was timed in this run. */
+static int is_timed(size_t i)
+{
+    return times[i].of[1][PROVED][0] > 0;
+}
+
+static int by_size(const void *a, const void *b)
+{
+    double x = *(const double *)a, y = *(const double *)b;
+    return (x > y) - (x < y);
+}
+
+struct spread {
+    double least, median, most;
+};
+
+/* The quotients of two rows of samples, repeat by repeat. */
+static struct spread quotients(const double *over, const double *under)
+{
+    double q[REPEATS];
+    for (size_t i = 0; i < REPEATS; i++) q[i] = over[i] / under[i];
+    qsort(q, REPEATS, sizeof *q, by_size);
+    return (struct spread){q[0], q[REPEATS / 2], q[REPEATS - 1]};
+}
+
+static struct spread spread_of(const double *samples)
+{
+    double ones[REPEATS];
+    for (size_t i = 0; i < REPEATS; i++) ones[i] = 1;
+    return quotients(samples, ones);
+}
+
+static void print_ratio(const struct times *t, size_t side)
+{
+    struct spread s = quotients(t->of[1][PROVED], t->of[1][side]);
+    printf(" %.2f (%.2f to %.2f) |", s.median, s.least, s.most);
+}
+
+/* How the proved library's time stands to each other side's, at the larger scale. */
+static void print_ratios(void)
+{
+    printf("| work | proved, µs: median (least) | of plain C, clang | of plain C, gcc | of a call of C's |\n|---|---|---|---|---|\n");
+    for (size_t i = 0; i < work_count; i++) {
+        if (!is_timed(i)) continue;
+        struct spread s = spread_of(times[i].of[1][PROVED]);
+        printf("| %s | %.2f (%.2f) |", works[i].name, s.median / 1000, s.least / 1000);
+        print_ratio(times + i, CLANG);
+        print_ratio(times + i, GCC);
+        if (works[i].rival) {
+            printf(" %s:", works[i].rival);
+            print_ratio(times + i, RIVAL);
+        } else {
+            printf(" |");
+        }
+        printf("\n");
+    }
+}
+
+/* How each side's time grows from the smaller scale to the larger. */
+static void print_growth(void)
+{
+    printf("\n| work | doubled | proved | plain C, clang | plain C, gcc |\n|---|---|---|---|---|\n");
+    for (size_t i = 0; i < work_count; i++) {
+        if (!is_timed(i)) continue;
+        printf("| %s | %s |", works[i].name, works[i].doubled);
+        for (size_t side = PROVED; side <= GCC; side++) {
+            struct spread s = quotients(times[i].of[1][side], times[i].of[0][side]);
+            printf(" %.2f (%.2f to %.2f) |", s.median, s.least, s.most);
+        }
+        printf("\n");
+    }
+}
+
+/* The same for programs: kind, work, side, median, least, most, with tabs between them. */
+static void print_lines(void)
+{
+    static const char *const names[] = {"proved", "plain-clang", "plain-gcc", "call"};
+    printf("\n");
+    for (size_t i = 0; i < work_count; i++) {
+        for (size_t side = 0; is_timed(i) && side < sides_of(&works[i]); side++) {
+            struct spread t = spread_of(times[i].of[1][side]), g = quotients(times[i].of[1][side], times[i].of[0][side]);
+            struct spread r = quotients(times[i].of[1][PROVED], times[i].of[1][side]);
+            const char *name = side == RIVAL ? works[i].rival : names[side];
+            printf("time\t%s\t%s\t%.1f\t%.1f\t%.1f\n", works[i].name, name, t.median, t.least, t.most);
+            printf("growth\t%s\t%s\t%.4f\t%.4f\t%.4f\n", works[i].name, name, g.median, g.least, g.most);
+            if (side != PROVED) printf("ratio\t%s\t%s\t%.4f\t%.4f\t%.4f\n", works[i].name, name, r.median, r.least, r.most);
+        }
+    }
+}
+
+static void make(const struct work *w)
+{
+    for (unsigned scale = 1; scale <= 2; scale++) {
+        struct input *in = &inputs[scale - 1];
+        memset(in, 0, sizeof *in);
+        restart();
+        w->make(in, scale);
+        check(w, in);
+        check_changed(w, in, sets, sizeof sets / sizeof *sets);
+    }
+}
+
+/* With a word, only the works whose names have it. */
+int main(int argc, char **argv)
+{
+    for (size_t i = 0; i < work_count; i++) {
+        if (argc > 1 && !strstr(works[i].name, argv[1])) continue;
+        make(&works[i]);
+        measure(&works[i], &times[i]);
+        fprintf(stderr, "bench: timed %s\n", works[i].name);
+    }
+    print_ratios();
+    print_growth();
+    print_lines();
+    return 0;
+}

@@ -1,0 +1,353 @@
+/* Makes the inputs of the benchmarks, each at two scales, and runs the work over them. */
+#include "inputs.h"
+#include "nosgoludd.h"
+
+#include <stdio.h>
+#include <string.h>
+
+static uint64_t state;
+
+void restart(void)
+{
+    state = 88172645463325252u;
+}
+
+uint32_t chance(uint32_t below)
+{
+    state ^= state << 13;
+    state ^= state >> 7;
+    state ^= state << 17;
+    return (uint32_t)((state >> 32) * below >> 32);
+}
+
+static void add(struct input *in, const char *bytes)
+{
+    size_t length = strlen(bytes);
+    memcpy(in->text + in->length, bytes, length);
+    in->length += length;
+}
+
+/* So many bytes of words. */
+static void add_words(struct input *in, size_t length)
+{
+    static const char *const words[] = {"barley", "clover", "field", "of", "the", "sprayed", "rye", "and", "sown", "12", "kg"};
+    size_t end = in->length + length, word = 0, at = 0;
+    while (in->length < end) {
+        char c = words[word][at++];
+        if (c == 0) {
+            c = ' ';
+            at = 0;
+            word = chance(sizeof words / sizeof *words);
+        }
+        in->text[in->length++] = (uint8_t)c;
+    }
+    if (length) in->text[end - 1] = '.';
+}
+
+/* ---- Numbers. */
+
+static uint64_t run_convert(const struct calls *c, struct input *in)
+{
+    uint64_t sum = 0;
+    for (size_t i = 0; i < in->count; i++) {
+        const struct item *item = in->items + i;
+        sum = sum * 31 + c->convert(item->call, item->value, in->out + i * SLOT, SLOT);
+    }
+    return sum;
+}
+
+static uint32_t mixed_value(void)
+{
+    return (uint32_t)((chance(65536) << 16 | chance(65536)) >> chance(32));
+}
+
+static void make_calls(struct input *in, const uint8_t *calls, size_t count, unsigned scale)
+{
+    in->count = scale * MOST_ITEMS / 2;
+    for (size_t i = 0; i < in->count; i++) in->items[i] = (struct item){.call = calls[chance((uint32_t)count)], .value = mixed_value()};
+}
+
+static void make_all_calls(struct input *in, unsigned scale)
+{
+    uint8_t calls[26] = {NOS_DECIMAL};
+    for (unsigned i = 1; i < 26; i++) calls[i] = (uint8_t)(NOS_HEX_1 + i - 1);
+    make_calls(in, calls, 26, scale);
+}
+
+static void make_printed_calls(struct input *in, unsigned scale)
+{
+    uint8_t calls[14] = {NOS_DECIMAL};
+    for (unsigned i = 1; i < 14; i++) calls[i] = (uint8_t)(NOS_HEX_1 + i - 1);
+    make_calls(in, calls, 14, scale);
+}
+
+/* Hex, decimal and binary of five digits' values by the two-byte calls, then of ten digits' by the four-byte ones. */
+static void make_wide_calls(struct input *in, unsigned scale)
+{
+    static const uint8_t calls[] = {NOS_HEX_4, NOS_UNSIGNED_2, NOS_BINARY_2, NOS_SPACED_UNSIGNED_2};
+    in->count = MOST_ITEMS;
+    for (size_t i = 0; i < in->count; i++) {
+        uint32_t call = calls[chance(4)];
+        in->items[i] = (struct item){.call = call, .value = 10000 + chance(50000)};
+        if (scale == 2) {
+            in->items[i].call = call == NOS_HEX_4 ? NOS_HEX_8 : call + 2;
+            in->items[i].value = 1000000000 + chance(3000000000);
+        }
+    }
+}
+
+static uint64_t run_read(const struct calls *c, struct input *in)
+{
+    uint64_t sum = 0;
+    for (size_t i = 0; i < in->count; i++) {
+        const struct item *item = in->items + i;
+        sum = sum * 31 + c->read_unsigned(in->text + item->start, item->length, 0, NOS_NO_LIMIT);
+    }
+    return sum;
+}
+
+static void add_digits(struct input *in, size_t count, unsigned base)
+{
+    for (size_t i = 0; i < count; i++) in->text[in->length++] = (uint8_t)"0123456789abcdef"[chance(base - 1) + 1];
+}
+
+/* Decimal, hex and binary numbers, each with a space behind it. */
+static void make_numbers(struct input *in, unsigned scale)
+{
+    in->count = MOST_ITEMS;
+    for (size_t i = 0; i < in->count; i++) {
+        in->items[i].start = in->length;
+        switch (chance(4)) {
+        case 0:
+            add(in, "&");
+            add_digits(in, 4 * scale, 16);
+            break;
+        case 1:
+            add(in, "8_");
+            add_digits(in, 5 * scale, 8);
+            break;
+        default:
+            add_digits(in, 4 * scale, 10);
+        }
+        in->items[i].length = in->length - in->items[i].start;
+        add(in, " ");
+    }
+}
+
+static void make_long_number(struct input *in, unsigned scale)
+{
+    in->length = scale * 30000;
+    memset(in->text, '0', in->length);
+    add(in, "12");
+    in->count = 1;
+    in->items[0] = (struct item){.length = in->length};
+}
+
+/* ---- Tables. Names are some of the machine's own kind; the record at a place has always the same. */
+
+static size_t name_of(char name[33], size_t number)
+{
+    static const char *const owners[] = {"Sys", "Diary", "File", "Alias", "Run", "Wimp", "Font", "Field",
+                                         "Farm", "Spray", "Inet", "System", "Printer", "Paper", "Draw", "Edit"};
+    static const char *const parts[] = {"Path", "Dir", "Type_FFF", "Date", "Time", "Year", "Row", "Crop",
+                                        "Options", "Prefix", "Code", "Area", "State", "Seed", "Load", "Font"};
+    return (size_t)snprintf(name, 33, "%s$%s", owners[number / 16], parts[number % 16]);
+}
+
+static size_t alike_name(char name[33], size_t number)
+{
+    return (size_t)snprintf(name, 33, "Certified$Fields$Diary$Entry%03u", (unsigned)number % 256);
+}
+
+static void add_record(struct input *in, uint8_t kind, const char *name, const void *value, size_t length)
+{
+    uint8_t *to = in->table + in->table_length;
+    const uint8_t head[5] = {86, 82, kind, (uint8_t)strlen(name), (uint8_t)length};
+    memcpy(to, head, 5);
+    memcpy(to + 5, name, head[3]);
+    memcpy(to + 5 + head[3], value, length);
+    in->table_length += (size_t)5 + head[3] + length;
+}
+
+/* Every `integers`-th record is an integer, the others strings. */
+static void make_table(struct input *in, size_t count, unsigned integers, size_t (*naming)(char *, size_t))
+{
+    char name[33];
+    for (size_t i = 0; i < count; i++) {
+        uint32_t number = mixed_value();
+        const uint8_t bytes[4] = {(uint8_t)number, (uint8_t)(number >> 8), (uint8_t)(number >> 16), (uint8_t)(number >> 24)};
+        naming(name, i);
+        if (i % integers == 0) add_record(in, NOS_INTEGER, name, bytes, 4);
+        else add_record(in, NOS_STRING, name, "a value of some twenty", chance(22));
+    }
+}
+
+static void make_records(struct input *in, unsigned scale)
+{
+    make_table(in, scale * 128, 4, name_of);
+}
+
+static void make_alike_records(struct input *in, unsigned scale)
+{
+    make_table(in, scale * 128, 4, alike_name);
+}
+
+static uint64_t run_check(const struct calls *c, struct input *in)
+{
+    return c->check_table(in->table, in->table_length);
+}
+
+/* ---- Texts. */
+
+static uint64_t run_translate(const struct calls *c, struct input *in)
+{
+    return c->translate(in->text, in->length, in->table, in->table_length, 0, 1024, in->out, sizeof in->out);
+}
+
+static void make_plain(struct input *in, unsigned scale)
+{
+    add_words(in, scale * 30000);
+}
+
+/* Bytes of words and then a mark, one mark to every `period` bytes. */
+static void add_marked(struct input *in, size_t period, const char *mark)
+{
+    add_words(in, period - strlen(mark));
+    add(in, mark);
+}
+
+static void make_references(struct input *in, unsigned scale)
+{
+    char mark[36] = "<", name[33];
+    make_table(in, 256, 4, name_of);
+    for (unsigned i = 0; i < scale * 512; i++) {
+        size_t length = name_of(name, chance(256));
+        memcpy(mark + 1, name, length);
+        memcpy(mark + 1 + length, ">", 2);
+        add_marked(in, 40, mark);
+    }
+}
+
+/* Macros named m0 to m15, each of which names the one before it so many times. */
+static void make_macros(struct input *in, unsigned count, unsigned times, const char *mark, unsigned marks)
+{
+    char name[8], value[64];
+    make_table(in, 16, 4, name_of);
+    add_record(in, NOS_MACRO, "m0", "rows |M of 12", 13);
+    for (unsigned i = 1; i < count; i++) {
+        int length = times == 1 ? sprintf(value, "field <m%u> of rye", i - 1) : sprintf(value, "f <m%u> rye <m%u>", i - 1, i - 1);
+        sprintf(name, "m%u", i);
+        add_record(in, NOS_MACRO, name, value, (size_t)length);
+    }
+    for (unsigned i = 0; i < marks; i++) add_marked(in, 40, mark);
+}
+
+static void make_deep_macros(struct input *in, unsigned scale)
+{
+    make_macros(in, 16, 1, "<m15>", scale * 32);
+}
+
+static void make_wide_macros(struct input *in, unsigned scale)
+{
+    make_macros(in, 4, 2, "<m3>", scale * 34);
+}
+
+static void make_marked(struct input *in, unsigned scale, size_t period, const char *mark)
+{
+    while (in->length < scale * 30000) add_marked(in, period, mark);
+}
+
+static void make_codes_4(struct input *in, unsigned scale) { make_marked(in, scale, 4, "|M"); }
+static void make_codes_8(struct input *in, unsigned scale) { make_marked(in, scale, 8, "|M"); }
+static void make_codes_16(struct input *in, unsigned scale) { make_marked(in, scale, 16, "|M"); }
+static void make_marks_4(struct input *in, unsigned scale) { make_marked(in, scale, 4, "<9>"); }
+static void make_marks_8(struct input *in, unsigned scale) { make_marked(in, scale, 8, "<65>"); }
+static void make_marks_16(struct input *in, unsigned scale) { make_marked(in, scale, 16, "<65>"); }
+
+/* ---- Expressions. */
+
+static uint64_t run_evaluate(const struct calls *c, struct input *in)
+{
+    return c->evaluate(in->text, in->length, in->table, in->table_length, 1024);
+}
+
+static void add_number(struct input *in)
+{
+    add_digits(in, 1 + chance(9), 10);
+}
+
+static void make_sums(struct input *in, unsigned scale)
+{
+    add_number(in);
+    while (in->length < scale * 30000) {
+        add(in, chance(2) ? "+" : "-");
+        add_number(in);
+    }
+}
+
+static void make_mixture(struct input *in, unsigned scale)
+{
+    static const char *const between[] = {"+", "-", "*", " AND ", " OR ", " EOR ", "<", ">=", "<<", ">>>", " = ", "/", " MOD "};
+    add_number(in);
+    while (in->length < scale * 30000) {
+        uint32_t operator = chance(sizeof between / sizeof *between);
+        add(in, between[operator]);
+        if (operator > 10) { /* nothing that could be zero is divided by */
+            add_number(in);
+            continue;
+        }
+        if (chance(4) == 0) add(in, "NOT -");
+        if (chance(4) != 0) {
+            add_number(in);
+        } else {
+            add(in, "(");
+            add_number(in);
+            add(in, chance(2) ? "*" : "+");
+            add_number(in);
+            add(in, ")");
+        }
+    }
+}
+
+static void make_brackets(struct input *in, unsigned scale)
+{
+    add(in, "1");
+    while (in->length < scale * 30000) add(in, "+((((((((((((((((7))))))))))))))))");
+}
+
+static void make_names(struct input *in, unsigned scale)
+{
+    char name[33];
+    make_table(in, 256, 1, name_of);
+    for (unsigned i = 0; i < scale * 512; i++) {
+        if (i > 0) add(in, chance(2) ? "+" : " - ");
+        name_of(name, chance(256));
+        add(in, name);
+    }
+}
+
+#define BYTES "the text's bytes"
+const struct work works[] = {
+    {"convert, all 26 calls, mixed values", "the conversions", make_all_calls, run_convert, NULL, NULL},
+    {"convert, decimal and hex calls", "the conversions", make_printed_calls, run_convert, "snprintf", by_snprintf},
+    {"convert, 4-byte calls, 10 digits", "the digits", make_wide_calls, run_convert, NULL, NULL},
+    {"read_unsigned, decimal, hex, base 8", "the digits", make_numbers, run_read, "strtoul", by_strtoul},
+    {"read_unsigned, one of 60,000 digits", "the digits", make_long_number, run_read, "strtoul", by_strtoul},
+    {"translate, plain text", BYTES, make_plain, run_translate, "memcpy", by_memcpy},
+    {"translate, a reference every 40 bytes", BYTES " and references", make_references, run_translate, NULL, NULL},
+    {"translate, macros 16 deep", BYTES " and references", make_deep_macros, run_translate, NULL, NULL},
+    {"translate, macros of two macros", BYTES " and references", make_wide_macros, run_translate, NULL, NULL},
+    {"translate, a code every 4 bytes", BYTES, make_codes_4, run_translate, NULL, NULL},
+    {"translate, a code every 8 bytes", BYTES, make_codes_8, run_translate, NULL, NULL},
+    {"translate, a code every 16 bytes", BYTES, make_codes_16, run_translate, NULL, NULL},
+    {"translate, a number every 4 bytes", BYTES, make_marks_4, run_translate, NULL, NULL},
+    {"translate, a number every 8 bytes", BYTES, make_marks_8, run_translate, NULL, NULL},
+    {"translate, a number every 16 bytes", BYTES, make_marks_16, run_translate, NULL, NULL},
+    {"check_table, 256 records", "the records", make_records, run_check, "a hash", by_hash},
+    {"check_table, 256 names alike", "the records", make_alike_records, run_check, "a hash", by_hash},
+    {"evaluate, a long sum", BYTES, make_sums, run_evaluate, NULL, NULL},
+    {"evaluate, brackets 16 deep", BYTES, make_brackets, run_evaluate, NULL, NULL},
+    {"evaluate, all operators", BYTES, make_mixture, run_evaluate, NULL, NULL},
+    {"evaluate, a sum of names", BYTES " and names", make_names, run_evaluate, NULL, NULL},
+};
+const size_t work_count = sizeof works / sizeof *works;

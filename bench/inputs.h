@@ -1,0 +1,46 @@
+/* What the benchmarks work on: the inputs, and the pieces of work over them. */
+#ifndef BENCH_INPUTS_H
+#define BENCH_INPUTS_H
+
+#include "calls.h"
+
+enum { MOST_ITEMS = 1024, SLOT = 40, ROOM = 400000 };
+
+/* A conversion, or a number that stands in the text. */
+struct item {
+    uint32_t call, value;
+    size_t start, length;
+};
+
+struct input {
+    uint8_t text[65536], table[65536], out[ROOM];
+    size_t length, table_length, count;
+    struct item items[MOST_ITEMS];
+};
+
+/* One piece of work. It is made at two scales, 1 and 2: `doubled` tells what the second has twice of. */
+struct work {
+    const char *name, *doubled;
+    void (*make)(struct input *in, unsigned scale);
+    uint64_t (*run)(const struct calls *c, struct input *in);
+    const char *rival; /* what a C programmer would call, or NULL */
+    uint64_t (*run_rival)(struct input *in);
+};
+
+extern const struct work works[];
+extern const size_t work_count;
+
+/* The same numbers in every run. */
+void restart(void);
+uint32_t chance(uint32_t below);
+
+/* The calls of the C library over the same inputs; their answers look as the library's do. */
+uint64_t by_snprintf(struct input *in);
+uint64_t by_strtoul(struct input *in);
+uint64_t by_memcpy(struct input *in);
+uint64_t by_hash(struct input *in);
+
+/* Every set answers changed inputs as the first does; ends the program otherwise. */
+void check_changed(const struct work *w, struct input *in, const struct calls *const *sets, size_t count);
+
+#endif

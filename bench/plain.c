@@ -1,0 +1,693 @@
+/* The same work in plain C, as a careful emulator's author writes it by hand: the opponent of the benchmarks. Nothing here is
+ * proved. It answers as include/nosgoludd.h says; the set's name comes from the command line, PLAIN_NAME. */
+#include "calls.h"
+#include "nosgoludd.h"
+
+#include <stdbool.h>
+#include <string.h>
+
+enum { DEEPEST = 16, MOST_RECORDS = 256, MOST_LOOK_UPS = 1024 };
+
+static uint64_t answer(unsigned number, unsigned counted, size_t place, size_t high)
+{
+    return number | (uint64_t)counted << 8 | (uint64_t)place << 16 | (uint64_t)high << 32;
+}
+
+/* ---- Numbers to strings. Each function writes from the right, up to end, and gives the length. */
+
+static size_t put_fixed(uint8_t *end, uint32_t value, unsigned digits, unsigned bits)
+{
+    for (unsigned i = 1; i <= digits; i++) {
+        end[-(int)i] = (uint8_t)"0123456789ABCDEF"[value & ((1u << bits) - 1)];
+        value >>= bits;
+    }
+    return digits;
+}
+
+static size_t put_unsigned(uint8_t *end, uint32_t value)
+{
+    uint8_t *p = end;
+    do {
+        *--p = (uint8_t)('0' + value % 10);
+        value /= 10;
+    } while (value != 0);
+    return (size_t)(end - p);
+}
+
+static size_t put_spaced(uint8_t *end, uint32_t value)
+{
+    uint8_t *p = end;
+    unsigned group = 0;
+    do {
+        if (group == 3) {
+            *--p = ' ';
+            group = 0;
+        }
+        *--p = (uint8_t)('0' + value % 10);
+        value /= 10;
+        group++;
+    } while (value != 0);
+    return (size_t)(end - p);
+}
+
+static size_t put_signed(uint8_t *end, int32_t value, bool spaced)
+{
+    uint32_t size = value < 0 ? 0u - (uint32_t)value : (uint32_t)value;
+    size_t length = spaced ? put_spaced(end, size) : put_unsigned(end, size);
+    if (value < 0) end[-(int)++length] = '-';
+    return length;
+}
+
+/* The string of a call from NOS_UNSIGNED_1 on: five families of one to four bytes. */
+static size_t put_by_bytes(uint8_t *end, uint32_t call, uint32_t value)
+{
+    unsigned bytes = (call - NOS_UNSIGNED_1) % 4 + 1;
+    unsigned unused = 32 - 8 * bytes;
+    uint32_t low = value << unused >> unused;
+    int32_t number = (int32_t)(value << unused) >> unused;
+    switch ((call - NOS_UNSIGNED_1) / 4) {
+    case 0: return put_unsigned(end, low);
+    case 1: return put_signed(end, number, false);
+    case 2: return put_fixed(end, low, 8 * bytes, 1);
+    case 3: return put_spaced(end, low);
+    default: return put_signed(end, number, true);
+    }
+}
+
+static uint64_t convert(uint32_t call, uint32_t value, uint8_t *buf, size_t room)
+{
+    static const uint8_t hex_digits[] = {1, 2, 4, 6, 8};
+    uint8_t string[40], *end = string + sizeof string;
+    size_t length;
+    call &= ~0x20000u;
+    if (call == NOS_DECIMAL) call = NOS_SIGNED_4;
+    if (call < NOS_HEX_1 || call > NOS_SPACED_SIGNED_4) return answer(NOS_UNKNOWN_CALL, 0, 0, 0);
+    if (call <= NOS_HEX_8)
+        length = put_fixed(end, value, hex_digits[call - NOS_HEX_1], 4);
+    else
+        length = put_by_bytes(end, call, value);
+    if (room <= length) return answer(NOS_NO_ROOM, 0, 0, length + 1);
+    memcpy(buf, end - length, length);
+    buf[length] = 0;
+    return answer(0, 0, length, length + 1);
+}
+
+/* ---- The unsigned reader. */
+
+static unsigned digit_of(uint8_t c)
+{
+    unsigned d = c - (unsigned)'0';
+    if (d < 10) return d;
+    d = (c | 32u) - 'a';
+    return d < 26 ? d + 10 : 36;
+}
+
+/* Digits from *at on; over 32 bits the value stays at 2 to the 32. */
+static uint64_t read_digits(const uint8_t *text, size_t length, size_t *at, unsigned base)
+{
+    uint64_t value = 0;
+    size_t i = *at;
+    for (; i < length; i++) {
+        unsigned d = digit_of(text[i]);
+        if (d >= base) break;
+        value = value * base + d;
+        if (value >> 32) value = (uint64_t)1 << 32;
+    }
+    *at = i;
+    return value;
+}
+
+static size_t skip_spaces(const uint8_t *text, size_t length, size_t at)
+{
+    while (at < length && text[at] == ' ') at++;
+    return at;
+}
+
+static uint64_t read_unsigned(const uint8_t *text, size_t length, uint32_t whole, uint32_t limit)
+{
+    if (length > NOS_LONGEST) return answer(NOS_OVER_LENGTH, 0, 0, 0);
+    size_t start = skip_spaces(text, length, 0), first = start, at = start;
+    uint64_t value;
+    if (at < length && text[at] == '&') {
+        first = ++at;
+        value = read_digits(text, length, &at, 16);
+    } else {
+        value = read_digits(text, length, &at, 10);
+        if (at > first && at < length && text[at] == '_') {
+            if (value < 2 || value > 36) return answer(NOS_BAD_BASE, 0, start, 0);
+            first = ++at;
+            value = read_digits(text, length, &at, (unsigned)value);
+        }
+    }
+    if (at == first) return answer(NOS_NO_DIGIT, 0, at, 0);
+    if (value >> 32) return answer(NOS_TOO_BIG, 0, start, 0);
+    if (whole && at < length && text[at] > 32) return answer(NOS_NOT_ENDED, 0, at, 0);
+    if (value > limit) return answer(NOS_OVER_LIMIT, 0, start, 0);
+    return answer(0, 0, at, (size_t)value);
+}
+
+/* ---- Variables. The check leaves an index of the records behind, which look-ups use. */
+
+struct record {
+    const uint8_t *name, *value;
+    uint8_t kind, name_length, value_length;
+};
+
+struct table {
+    size_t count;
+    struct record records[MOST_RECORDS];
+};
+
+static uint8_t small(uint8_t c)
+{
+    return c >= 'A' && c <= 'Z' ? c | 32 : c;
+}
+
+static bool is_name_byte(uint8_t c)
+{
+    return c > 32 && c < 127 && c != '"' && c != '<' && c != '>';
+}
+
+static const struct record *find(const struct table *t, const uint8_t *name, size_t length)
+{
+    for (const struct record *r = t->records; r < t->records + t->count; r++) {
+        if (r->name_length != length) continue;
+        size_t i = 0;
+        while (i < length && small(r->name[i]) == small(name[i])) i++;
+        if (i == length) return r;
+    }
+    return NULL;
+}
+
+/* Reads the record at a place into *r, and gives its length, or 0 where it has not a record's shape. */
+static size_t read_record(const uint8_t *at, size_t length, struct record *r)
+{
+    if (length < 5 || at[0] != 86 || at[1] != 82 || at[2] > NOS_MACRO) return 0;
+    *r = (struct record){.name = at + 5, .value = at + 5 + at[3], .kind = at[2], .name_length = at[3], .value_length = at[4]};
+    size_t all = (size_t)5 + r->name_length + r->value_length;
+    if (r->name_length < 1 || r->name_length > 32 || all > length) return 0;
+    if (r->kind == NOS_INTEGER && r->value_length != 4) return 0;
+    for (size_t i = 0; i < r->name_length; i++)
+        if (!is_name_byte(r->name[i])) return 0;
+    return all;
+}
+
+static uint64_t index_table(struct table *t, const uint8_t *table, size_t length)
+{
+    t->count = 0;
+    if (length > NOS_LONGEST) return answer(NOS_OVER_LENGTH, 1, 0, 0);
+    for (size_t at = 0; at < length;) {
+        struct record r;
+        size_t size = t->count < MOST_RECORDS ? read_record(table + at, length - at, &r) : 0;
+        if (size == 0 || find(t, r.name, r.name_length)) return answer(NOS_BAD_TABLE, 1, at, 0);
+        t->records[t->count++] = r;
+        at += size;
+    }
+    return answer(0, 1, 0, t->count);
+}
+
+static uint64_t check_table(const uint8_t *table, size_t length)
+{
+    struct table t;
+    return index_table(&t, table, length);
+}
+
+static uint32_t integer_of(const struct record *r)
+{
+    return r->value[0] | (uint32_t)r->value[1] << 8 | (uint32_t)r->value[2] << 16 | (uint32_t)r->value[3] << 24;
+}
+
+/* ---- GS strings. Two passes: with no output the first only counts, so that a refusal writes nothing. */
+
+struct work {
+    const struct table *table;
+    unsigned left;
+    uint8_t *out;
+    size_t need;
+};
+
+/* One text, at any level, and where its reading stands. */
+struct reading {
+    const uint8_t *text;
+    size_t length, at, quote;
+    uint32_t flags;
+    bool quoted;
+};
+
+static unsigned expand(struct work *w, struct reading *r, unsigned depth);
+
+static void give(struct work *w, uint8_t c)
+{
+    if (w->out) w->out[w->need] = c;
+    w->need++;
+}
+
+static void give_all(struct work *w, const uint8_t *bytes, size_t length)
+{
+    if (w->out) memcpy(w->out + w->need, bytes, length);
+    w->need += length;
+}
+
+/* The byte at a place; behind the end it is one that ends the text anyway. */
+static uint8_t peek(const struct reading *r, size_t at)
+{
+    return at < r->length ? r->text[at] : 0;
+}
+
+static bool is_end(uint8_t c)
+{
+    return c == 0 || c == 10 || c == 13;
+}
+
+/* What stands for the byte behind a bar, or -1. */
+static int code_of(uint8_t c)
+{
+    if (c >= '@' && c <= 'Z') return c - '@';
+    if (c >= 'a' && c <= 'z') return c - '`';
+    switch (c) {
+    case '[': case '{': return 27;
+    case '\\': return 28;
+    case ']': case '}': return 29;
+    case '^': case '~': return 30;
+    case '_': case '\'': return 31;
+    case '?': return 127;
+    case '|': case '<': case '"': return c;
+    default: return -1;
+    }
+}
+
+/* A bar at r->at, and what stands behind it. */
+static unsigned give_code(struct work *w, struct reading *r)
+{
+    uint8_t c = peek(r, r->at + 1), top = 0;
+    size_t next = r->at + 2;
+    int code;
+    if (c == '!') {
+        top = 128;
+        c = peek(r, r->at + 2);
+        next = r->at + 3;
+        if (is_end(c) || c == '<' || c == '"') return NOS_BAD_CODE;
+        if (c == ' ' && !r->quoted && r->flags & NOS_SPACE_ENDS) return NOS_BAD_CODE;
+        if (c != '|') {
+            give(w, c | top);
+            r->at = next;
+            return 0;
+        }
+        c = peek(r, next++);
+    }
+    code = code_of(c);
+    if (code < 0) return NOS_BAD_CODE;
+    give(w, (uint8_t)code | top);
+    r->at = next;
+    return 0;
+}
+
+static unsigned give_variable(struct work *w, const struct record *v, unsigned depth)
+{
+    uint8_t digits[12], *end = digits + sizeof digits;
+    size_t length;
+    if (v->kind == NOS_MACRO && depth == DEEPEST) return NOS_TOO_DEEP;
+    if (w->left == 0) return NOS_ALLOWANCE_SPENT;
+    w->left--;
+    switch (v->kind) {
+    case NOS_STRING:
+        give_all(w, v->value, v->value_length);
+        return 0;
+    case NOS_INTEGER:
+        length = put_signed(end, (int32_t)integer_of(v), false);
+        give_all(w, end - length, length);
+        return 0;
+    default:
+        return expand(w, &(struct reading){.text = v->value, .length = v->value_length}, depth + 1);
+    }
+}
+
+/* A "<" at r->at: a number or a name, up to its ">". */
+static unsigned give_reference(struct work *w, struct reading *r, unsigned depth)
+{
+    const uint8_t *content = r->text + r->at + 1;
+    size_t end = r->at + 1;
+    unsigned number;
+    while (is_name_byte(peek(r, end))) end++;
+    size_t length = end - r->at - 1;
+    if (length == 0 || peek(r, end) != '>') return NOS_BAD_REFERENCE;
+    uint64_t read = read_unsigned(content, length, 1, NOS_NO_LIMIT);
+    if (nos_number(read) == 0) {
+        give(w, (uint8_t)nos_value(read));
+    } else {
+        if (nos_number(read) == NOS_TOO_BIG) return NOS_TOO_BIG;
+        const struct record *v = find(w->table, content, length);
+        if (!v) return NOS_UNKNOWN_NAME;
+        number = give_variable(w, v, depth);
+        if (number) return number;
+    }
+    r->at = end + 1;
+    return 0;
+}
+
+/* Behind a closing quote. */
+static unsigned end_quoted(struct reading *r)
+{
+    if (!(r->flags & NOS_SPACE_ENDS)) r->at = skip_spaces(r->text, r->length, r->at);
+    else if (peek(r, r->at) == ' ') return 0;
+    return is_end(peek(r, r->at)) ? 0 : NOS_BAD_STRING;
+}
+
+/* Gives the ordinary bytes from r->at on, byte by byte. */
+static void give_ordinary(struct work *w, struct reading *r)
+{
+    const uint8_t *text = r->text;
+    size_t at = r->at, length = r->length, need = w->need;
+    uint8_t *out = w->out;
+    bool space_ends = !r->quoted && r->flags & NOS_SPACE_ENDS;
+    for (; at < length; at++) {
+        uint8_t c = text[at];
+        if (c <= '"' && (is_end(c) || c == '"' || (c == ' ' && space_ends))) break;
+        if (c == '|' || c == '<') break;
+        if (out) out[need] = c;
+        need++;
+    }
+    r->at = at;
+    w->need = need;
+}
+
+/* Reads a text to its end or to a refusal, at r->at. */
+static unsigned read_on(struct work *w, struct reading *r, unsigned depth)
+{
+    unsigned number;
+    for (;;) {
+        give_ordinary(w, r);
+        uint8_t c = peek(r, r->at);
+        switch (c) {
+        case '"':
+            if (!r->quoted) break;
+            if (peek(r, ++r->at) != '"') return end_quoted(r);
+            break;
+        case '|':
+            if (r->flags & NOS_BAR_PLAIN) break;
+            if ((number = give_code(w, r)) != 0) return number;
+            continue;
+        case '<':
+            if ((number = give_reference(w, r, depth)) != 0) return number;
+            continue;
+        default: /* an end, or a space that ends the text */
+            if (!r->quoted) return 0;
+            r->at = r->quote;
+            return NOS_BAD_STRING;
+        }
+        give(w, c);
+        r->at++;
+    }
+}
+
+static unsigned expand(struct work *w, struct reading *r, unsigned depth)
+{
+    r->at = skip_spaces(r->text, r->length, 0);
+    if (peek(r, r->at) == '"' && !(r->flags & NOS_QUOTE_PLAIN)) {
+        r->quoted = true;
+        r->quote = r->at++;
+    }
+    return read_on(w, r, depth);
+}
+
+static uint64_t translate(const uint8_t *text, size_t length, const uint8_t *table, size_t table_length, uint32_t flags,
+                          uint32_t allowance, uint8_t *out, size_t room)
+{
+    struct table t;
+    if (length > NOS_LONGEST) return answer(NOS_OVER_LENGTH, 0, 0, 0);
+    uint64_t checked = index_table(&t, table, table_length);
+    if (nos_number(checked)) return checked;
+    unsigned left = allowance < MOST_LOOK_UPS ? allowance : MOST_LOOK_UPS;
+    struct work measure = {.table = &t, .left = left}, write = {.table = &t, .left = left, .out = out};
+    struct reading first = {.text = text, .length = length, .flags = flags}, second = first;
+    unsigned number = expand(&measure, &first, 0);
+    if (number) return answer(number, 0, first.at, 0);
+    if (measure.need > room) return answer(NOS_NO_ROOM, 0, 0, measure.need);
+    if (measure.need) expand(&write, &second, 0);
+    return answer(0, 0, first.at, measure.need);
+}
+
+/* ---- Expressions: recursive descent with one token of look-ahead. What the evaluation meets waits until the syntax is known. */
+
+enum kind { END, OPERATOR, NUMBER, BAD_NUMBER, NAME, OPEN, CLOSE, STRANGE };
+enum operator { NOT, TIMES, OVER, MOD, PLUS, MINUS, EQUAL, UNEQUAL, LESS, GREATER, AT_MOST, AT_LEAST, LEFT, RIGHT, RIGHT_UNSIGNED,
+                AND, OR, EOR };
+enum { NO_LEVEL = 0, LOOSEST = 5 };
+
+struct token {
+    enum kind kind;
+    enum operator operator;
+    unsigned level, number;  /* how tightly it binds, the tightest 1; a bad number's refusal */
+    uint32_t value;
+    size_t place, next;      /* of a bad number, next is the refusal's place */
+};
+
+struct parser {
+    const uint8_t *text;
+    size_t length;
+    const struct table *table;
+    unsigned left;
+    struct token token;
+    unsigned wrong, refused;
+    size_t wrong_place, refused_place;
+};
+
+static void set_operator(struct token *t, enum operator operator, unsigned level, size_t length)
+{
+    t->kind = OPERATOR;
+    t->operator = operator;
+    t->level = level;
+    t->next = t->place + length;
+}
+
+static uint8_t byte_at(const struct parser *p, size_t at)
+{
+    return at < p->length ? p->text[at] : 0;
+}
+
+static bool is_letter(uint8_t c)
+{
+    return (c | 32u) - 'a' < 26;
+}
+
+static void read_word(struct parser *p)
+{
+    struct token *t = &p->token;
+    const uint8_t *word = p->text + t->place;
+    size_t next = t->place + 1;
+    uint8_t c;
+    while (c = byte_at(p, next), is_letter(c) || c - (unsigned)'0' < 10 || c == '_' || c == '$') next++;
+    t->kind = NAME;
+    t->next = next;
+    if (next - t->place == 3) {
+        if (memcmp(word, "MOD", 3) == 0) set_operator(t, MOD, 1, 3);
+        else if (memcmp(word, "AND", 3) == 0) set_operator(t, AND, 4, 3);
+        else if (memcmp(word, "EOR", 3) == 0) set_operator(t, EOR, 5, 3);
+        else if (memcmp(word, "NOT", 3) == 0) set_operator(t, NOT, NO_LEVEL, 3);
+    } else if (next - t->place == 2 && memcmp(word, "OR", 2) == 0) {
+        set_operator(t, OR, 5, 2);
+    }
+}
+
+static void read_number(struct parser *p)
+{
+    struct token *t = &p->token;
+    uint64_t read = read_unsigned(p->text + t->place, p->length - t->place, 0, NOS_NO_LIMIT);
+    t->number = nos_number(read);
+    t->kind = t->number ? BAD_NUMBER : NUMBER;
+    t->value = nos_value(read);
+    t->next = t->place + nos_place(read);
+}
+
+static void read_relation(struct parser *p, uint8_t c, uint8_t d)
+{
+    struct token *t = &p->token;
+    if (c == '<') {
+        if (d == '>') set_operator(t, UNEQUAL, 3, 2);
+        else if (d == '=') set_operator(t, AT_MOST, 3, 2);
+        else if (d == '<') set_operator(t, LEFT, 3, 2);
+        else set_operator(t, LESS, 3, 1);
+    } else if (d == '=') {
+        set_operator(t, AT_LEAST, 3, 2);
+    } else if (d == '>') {
+        if (byte_at(p, t->place + 2) == '>') set_operator(t, RIGHT_UNSIGNED, 3, 3);
+        else set_operator(t, RIGHT, 3, 2);
+    } else {
+        set_operator(t, GREATER, 3, 1);
+    }
+}
+
+/* Reads the token behind a place. */
+static void read_token(struct parser *p, size_t at)
+{
+    struct token *t = &p->token;
+    t->place = at = skip_spaces(p->text, p->length, at);
+    t->next = at + 1;
+    t->level = NO_LEVEL;
+    uint8_t c = byte_at(p, at);
+    switch (c) {
+    case 0: case 10: case 13: t->kind = END; return;
+    case '(': t->kind = OPEN; return;
+    case ')': t->kind = CLOSE; return;
+    case '*': set_operator(t, TIMES, 1, 1); return;
+    case '/': set_operator(t, OVER, 1, 1); return;
+    case '+': set_operator(t, PLUS, 2, 1); return;
+    case '-': set_operator(t, MINUS, 2, 1); return;
+    case '=': set_operator(t, EQUAL, 3, 1); return;
+    case '<': case '>': read_relation(p, c, byte_at(p, at + 1)); return;
+    case '&': case '0': case '1': case '2': case '3': case '4': case '5': case '6': case '7': case '8': case '9':
+        read_number(p);
+        return;
+    }
+    if (is_letter(c)) read_word(p);
+    else t->kind = STRANGE;
+}
+
+static uint32_t wrong(struct parser *p, unsigned number, size_t place)
+{
+    p->wrong = number;
+    p->wrong_place = place;
+    return 0;
+}
+
+static uint32_t refuse(struct parser *p, unsigned number, size_t place)
+{
+    if (p->refused == 0) {
+        p->refused = number;
+        p->refused_place = place;
+    }
+    return 0;
+}
+
+static uint32_t shift_right(uint32_t l, uint32_t by)
+{
+    return (uint32_t)((int32_t)l >> (by < 32 ? by : 31));
+}
+
+static uint32_t divide(struct parser *p, enum operator operator, size_t place, int32_t l, int32_t r)
+{
+    if (r == 0) return refuse(p, NOS_ZERO_DIVISOR, place);
+    if (r == -1) return operator == OVER ? 0u - (uint32_t)l : 0;
+    return (uint32_t)(operator == OVER ? l / r : l % r);
+}
+
+static uint32_t apply(struct parser *p, enum operator operator, size_t place, uint32_t l, uint32_t r)
+{
+    int32_t a = (int32_t)l, b = (int32_t)r;
+    switch (operator) {
+    case TIMES: return l * r;
+    case OVER: case MOD: return divide(p, operator, place, a, b);
+    case PLUS: return l + r;
+    case MINUS: return l - r;
+    case EQUAL: return 0u - (l == r);
+    case UNEQUAL: return 0u - (l != r);
+    case LESS: return 0u - (a < b);
+    case GREATER: return 0u - (a > b);
+    case AT_MOST: return 0u - (a <= b);
+    case AT_LEAST: return 0u - (a >= b);
+    case LEFT: return r < 32 ? l << r : 0;
+    case RIGHT: return shift_right(l, r);
+    case RIGHT_UNSIGNED: return r < 32 ? l >> r : 0;
+    case AND: return l & r;
+    case OR: return l | r;
+    case EOR: return l ^ r;
+    default: return 0;
+    }
+}
+
+static uint32_t expression(struct parser *p, unsigned level, unsigned depth);
+
+static uint32_t look_up(struct parser *p, const struct token *t)
+{
+    if (p->refused) return 0;
+    const struct record *v = find(p->table, p->text + t->place, t->next - t->place);
+    if (!v) return refuse(p, NOS_UNKNOWN_NAME, t->place);
+    if (v->kind != NOS_INTEGER) return refuse(p, NOS_NOT_AN_INTEGER, t->place);
+    if (p->left == 0) return refuse(p, NOS_ALLOWANCE_SPENT, t->place);
+    p->left--;
+    return integer_of(v);
+}
+
+static uint32_t bracket(struct parser *p, unsigned depth)
+{
+    uint32_t value = expression(p, LOOSEST, depth + 1);
+    if (p->wrong) return 0;
+    if (p->token.kind != CLOSE) return wrong(p, NOS_BAD_EXPRESSION, p->token.place);
+    read_token(p, p->token.next);
+    return value;
+}
+
+static uint32_t unary(struct parser *p, enum operator operator, unsigned depth)
+{
+    uint32_t value = expression(p, NO_LEVEL, depth + 1);
+    switch (operator) {
+    case NOT: return ~value;
+    case MINUS: return 0u - value;
+    default: return value;
+    }
+}
+
+static uint32_t operand(struct parser *p, unsigned depth)
+{
+    struct token t = p->token;
+    uint32_t value = t.value;
+    switch (t.kind) {
+    case BAD_NUMBER: return wrong(p, t.number, t.next);
+    case NAME:
+        value = look_up(p, &t);
+        /* fall through */
+    case NUMBER:
+        read_token(p, t.next);
+        return value;
+    case OPERATOR:
+        if (t.operator != NOT && t.operator != PLUS && t.operator != MINUS) break;
+        /* fall through */
+    case OPEN:
+        if (depth == DEEPEST) return wrong(p, NOS_TOO_DEEP, t.place);
+        read_token(p, t.next);
+        return t.kind == OPEN ? bracket(p, depth) : unary(p, t.operator, depth);
+    default:
+        break;
+    }
+    return wrong(p, NOS_BAD_EXPRESSION, t.place);
+}
+
+/* Operands with operators between them that bind at least as tightly as a level. */
+static uint32_t expression(struct parser *p, unsigned level, unsigned depth)
+{
+    uint32_t left = operand(p, depth);
+    while (!p->wrong && p->token.level != NO_LEVEL && p->token.level <= level) {
+        enum operator operator = p->token.operator;
+        unsigned tighter = p->token.level - 1;
+        size_t place = p->token.place;
+        read_token(p, p->token.next);
+        uint32_t right = expression(p, tighter, depth);
+        left = apply(p, operator, place, left, right);
+    }
+    return left;
+}
+
+static uint64_t evaluate(const uint8_t *text, size_t length, const uint8_t *table, size_t table_length, uint32_t allowance)
+{
+    struct table t;
+    if (length > NOS_LONGEST) return answer(NOS_OVER_LENGTH, 0, 0, 0);
+    uint64_t checked = index_table(&t, table, table_length);
+    if (nos_number(checked)) return checked;
+    struct parser p = {.text = text, .length = length, .table = &t};
+    p.left = allowance < MOST_LOOK_UPS ? allowance : MOST_LOOK_UPS;
+    read_token(&p, 0);
+    uint32_t value = expression(&p, LOOSEST, 0);
+    if (!p.wrong && p.token.kind != END) wrong(&p, NOS_BAD_EXPRESSION, p.token.place);
+    if (p.wrong) return answer(p.wrong, 0, p.wrong_place, 0);
+    if (p.refused) return answer(p.refused, 0, p.refused_place, 0);
+    return answer(0, 0, p.token.place, value);
+}
+
+const struct calls PLAIN_NAME = {
+    .name = "plain C",
+    .convert = convert,
+    .read_unsigned = read_unsigned,
+    .check_table = check_table,
+    .translate = translate,
+    .evaluate = evaluate,
+};

@@ -1,0 +1,61 @@
+/* What a C programmer would call for the same work, over the same inputs: snprintf, strtoul, memcpy, and a hash of names. */
+#include "inputs.h"
+#include "nosgoludd.h"
+
+#include <stdio.h>
+#include <stdlib.h>
+#include <string.h>
+
+/* One conversion; the calls of three bytes have no type of C's own. */
+static int print(char *to, uint32_t call, uint32_t value)
+{
+    switch (call) {
+    case NOS_HEX_1: return snprintf(to, SLOT, "%X", value & 15);
+    case NOS_HEX_2: return snprintf(to, SLOT, "%02X", value & 0xFF);
+    case NOS_HEX_4: return snprintf(to, SLOT, "%04X", value & 0xFFFF);
+    case NOS_HEX_6: return snprintf(to, SLOT, "%06X", value & 0xFFFFFF);
+    case NOS_HEX_8: return snprintf(to, SLOT, "%08X", value);
+    case NOS_UNSIGNED_1: return snprintf(to, SLOT, "%u", value & 0xFF);
+    case NOS_UNSIGNED_2: return snprintf(to, SLOT, "%u", value & 0xFFFF);
+    case NOS_UNSIGNED_3: return snprintf(to, SLOT, "%u", value & 0xFFFFFF);
+    case NOS_UNSIGNED_4: return snprintf(to, SLOT, "%u", value);
+    case NOS_SIGNED_1: return snprintf(to, SLOT, "%d", (int8_t)value);
+    case NOS_SIGNED_2: return snprintf(to, SLOT, "%d", (int16_t)value);
+    case NOS_SIGNED_3: return snprintf(to, SLOT, "%d", (int32_t)(value << 8) >> 8);
+    default: return snprintf(to, SLOT, "%d", (int32_t)value);
+    }
+}
+
+uint64_t by_snprintf(struct input *in)
+{
+    uint64_t sum = 0;
+    for (size_t i = 0; i < in->count; i++) {
+        uint64_t length = (uint64_t)print((char *)in->out + i * SLOT, in->items[i].call, in->items[i].value);
+        sum = sum * 31 + (length << 16 | (length + 1) << 32);
+    }
+    return sum;
+}
+
+uint64_t by_strtoul(struct input *in)
+{
+    uint64_t sum = 0;
+    for (size_t i = 0; i < in->count; i++) {
+        const char *start = (const char *)in->text + in->items[i].start;
+        char *end;
+        uint64_t value = *start == '&' ? strtoul(start + 1, &end, 16) : strtoul(start, &end, 10);
+        if (*start != '&' && *end == '_') value = strtoul(end + 1, &end, (int)value);
+        sum = sum * 31 + ((uint64_t)(end - start) << 16 | value << 32);
+    }
+    return sum;
+}
+
+uint64_t by_memcpy(struct input *in)
+{
+    memcpy(in->out, in->text, in->length);
+    return (uint64_t)in->length << 16 | (uint64_t)in->length << 32;
+}
+
+uint64_t by_hash(struct input *in)
+{
+    return hashed_check_table(in->table, in->table_length);
+}
