@@ -8,4 +8,3 @@ pub mod Chains
 pub mod Operands
 pub mod Limits
 pub mod Orders
-pub mod Firsts

@@ -8,7 +8,7 @@ use Rattle.paper.specs.declared.faults.Fault.the-variants.{BadExpression}
 use Rattle.paper.specs.Traces.{numberOf, Run, finished, stopped, run, ended}
 use Rattle.variables.specs.Names.{Meaning}
 use Rattle.expressions.specs.Operators.{divides}
-use Rattle.expressions.specs.Tokens.{letter, tokenAt}
+use Rattle.expressions.specs.Tokens.{tokenAt}
 use Rattle.expressions.specs.Trees.{Parsed, tree, wrong, binding}
 use Rattle.expressions.specs.Values.{unaryValue, binaryValue}
 use Rattle.expressions.specs.Evaluations.{valueOf, steps}
@@ -64,19 +64,6 @@ joinedPart operator place left (Refused number at next) = Refused number at next
 joinedPart operator place (Value l spent behind) (Value r rest next) = appliedPart operator place l r rest next
 joinedPart operator place (Refused number at behind) (Value r rest next) = Refused number at next
 joinedPart operator place (Wrong fault at) (Value r rest next) = Wrong fault at
-
--- the level of the operators that a byte starts, 0 where it starts none that stands between operands
-unfoldable pub signLevel : ℕ → ℕ
-signLevel c =
-    cond (eqb c 43) 2
-    (cond (eqb c 45) 2
-    (cond (eqb c 42) 1 (cond (eqb c 47) 1 (cond (eqb c 60) 3 (cond (eqb c 61) 3 (cond (eqb c 62) 3 0))))))
-
-unfoldable pub wordLevel : ℕ → ℕ
-wordLevel c = cond (eqb c 77) 1 (cond (eqb c 65) 4 (cond (eqb c 79) 5 (cond (eqb c 69) 5 0)))
-
-abbrev pub firstLevel : ℕ → ℕ
-firstLevel c = cond (letter c) (wordLevel c) (signLevel c)
 
 -- the operator of a level behind a part
 abbrev pub behindPart : List ℕ → ℕ → Part → Behind

@@ -1,12 +1,9 @@
 // One function for each level of precedence. Each reads the operands one level tighter, with its own operators between them from the
 // left; the tightest is the operand, which calls the loosest level back for a bracket.
 ghost use mathlib.Core.Path.{_≡_};
-ghost use mathlib.Core.Bool.{_||_};
-ghost use lib.Dec.{eqb};
 ghost use Rattle.variables.specs.Names.{namesOf};
-ghost use Rattle.expressions.specs.Tokens.{tokenAt};
 ghost use Rattle.expressions.specs.Trees.{binding, levelAt, operandAt};
-ghost use Rattle.expressions.specs.Steps.{partOf, signLevel, wordLevel, firstLevel, behindPart, closedPartBy, closedPart, endedPartBy, endedPart};
+ghost use Rattle.expressions.specs.Steps.{partOf, behindPart, closedPartBy, closedPart, endedPartBy, endedPart};
 ghost use Rattle.expressions.specs.declared.parts.Part.the-variants as Part;
 ghost use Rattle.paper.specs.declared.faults.Fault.the-variants as Fault;
 use crate::operators::Operator;
@@ -16,7 +13,6 @@ use crate::parts::Part;
 use crate::tokens;
 use crate::tokens::Lexed;
 use crate::tokens::Token;
-use paper::bytes::byte;
 use paper::faults::Fault;
 
 // What stands behind an operand: an operator of the level that asks, with its place and the place behind it, or anything else.
@@ -46,80 +42,6 @@ fn binding(level: u8, lexed: Lexed) -> Behind
     }
 }
 
-fn sign_level(c: u8) -> u8
-    ensures { λ r. ⌜ r ≡ signLevel c ⌝ }
-{
-    if c == b'+' {
-        return 2;
-    }
-    if c == b'-' {
-        return 2;
-    }
-    if c == b'*' {
-        return 1;
-    }
-    if c == b'/' {
-        return 1;
-    }
-    if c == b'<' {
-        return 3;
-    }
-    if c == b'=' {
-        return 3;
-    }
-    if c == b'>' {
-        return 3;
-    }
-    0
-}
-
-fn word_level(c: u8) -> u8
-    ensures { λ r. ⌜ r ≡ wordLevel c ⌝ }
-{
-    if c == b'M' {
-        return 1;
-    }
-    if c == b'A' {
-        return 4;
-    }
-    if c == b'O' {
-        return 5;
-    }
-    if c == b'E' {
-        return 5;
-    }
-    0
-}
-
-// The level of the operators that a byte starts, 0 where it starts none that stands between operands.
-fn first_level(c: u8) -> u8
-    ensures { λ r. ⌜ r ≡ firstLevel c ⌝ }
-{
-    if tokens::is_letter(c) {
-        return word_level(c);
-    }
-    sign_level(c)
-}
-
-// Whether an operator of a level may stand where a byte does. It takes one byte to see that most of the levels do not bind there.
-fn may_bind(level: u8, c: u8) -> bool
-    ensures { λ r. ⌜ r ≡ (eqb c 32 || eqb (firstLevel c) level) ⌝ }
-{
-    if c == b' ' {
-        return true;
-    }
-    first_level(c) == level
-}
-
-fn binding_at(text: &[u8], level: u8, next: usize) -> Behind
-    ensures { λ r. ⌜ r ≡ binding level (tokenAt (now (text .entry)) next) ⌝ }
-{
-    if may_bind(level, byte(text, next)) {
-        return binding(level, tokens::token_at(text, next));
-    }
-    Behind::Other
-}
-
 fn operator_behind(text: &[u8], level: u8, part: Part) -> Behind
     ensures { λ r. ⌜ r ≡ behindPart (now (text .entry)) level part ⌝ }
 {
@@ -128,12 +50,12 @@ fn operator_behind(text: &[u8], level: u8, part: Part) -> Behind
             value: _,
             left: _,
             next,
-        } => binding_at(text, level, next),
+        } => binding(level, tokens::token_at(text, next)),
         Part::Refused {
             number: _,
             place: _,
             next,
-        } => binding_at(text, level, next),
+        } => binding(level, tokens::token_at(text, next)),
         Part::Wrong { fault: _, place: _ } => Behind::Other,
     }
 }

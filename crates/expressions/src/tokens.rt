@@ -41,7 +41,7 @@ pub struct Lexed {
     pub next: usize,
 }
 
-pub(crate) fn is_letter(c: u8) -> bool
+fn is_letter(c: u8) -> bool
     ensures { λ r. ⌜ r ≡ letter c ⌝ }
 {
     among(b'A', b'Z', c) || among(b'a', b'z', c)

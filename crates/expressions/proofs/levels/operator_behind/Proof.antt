@@ -1,30 +1,47 @@
--- `operator_behind` meets its contract: what stands behind the part decides, where there is a part.
-use mathlib.Core.Path.{ap, sym, _∙_}
+-- `operator_behind` meets its contract: the token behind the part decides, where there is a part.
+use mathlib.Core.Path.{_≡_, refl, ap, sym, _∙_}
+use mathlib.Core.List.{List}
+use Prim.Native.Nat.{ℕ}
+use Rattle.expressions.specs.Tokens.{tokenAt}
+use Rattle.expressions.specs.Trees.{binding}
 use Rattle.expressions.specs.Steps.{behindPart}
+use Rattle.expressions.specs.declared.levels.Behind.{Behind}
+use Rattle.expressions.specs.declared.parts.Part.{Part}
+use Rattle.expressions.specs.declared.tokens.Lexed.{Lexed}
 use borrow.Author.Needs.{needs}
 use Rattle.expressions.proofs.levels.operator_behind.Statement.{statement}
 use Rattle.expressions.proofs.levels.operator_behind.Tie as tie
 
+by-token : (text : List ℕ) (level next : ℕ) (p part : Part) (l : Lexed) (r : Behind) → behindPart text level p ≡ binding level (tokenAt text next)
+    → part ≡ p → l ≡ tokenAt text next → r ≡ binding level l → r ≡ behindPart text level part
+by-token text level next p part l r d e t h = h ∙ ap (binding level) t ∙ sym d ∙ ap (behindPart text level) (sym e)
+
 enum-known-part : tie.Need-enum-known-part
 enum-known-part c = search needs
 
-binding-at-requires : tie.Need-binding-at-requires
-binding-at-requires c κs = search needs
+token-at-requires : tie.Need-token-at-requires
+token-at-requires c κs = search needs
+
+binding-requires : tie.Need-binding-requires
+binding-requires c κs = search needs
 
 enum-known-part-2 : tie.Need-enum-known-part-2
 enum-known-part-2 c = search needs
 
-binding-at-requires-2 : tie.Need-binding-at-requires-2
-binding-at-requires-2 c κs = search needs
+token-at-requires-2 : tie.Need-token-at-requires-2
+token-at-requires-2 c κs = search needs
+
+binding-requires-2 : tie.Need-binding-requires-2
+binding-requires-2 c κs = search needs
 
 enum-told : tie.Need-enum-told
 enum-told c = search needs
 
 returns : tie.Need-returns
-returns c = c .binding-at .ensures ∙ ap (behindPart _ _) (sym (c .before .before .part .given .1))
+returns c = by-token _ _ _ _ _ _ _ refl (c .before .before .before .part .given .1) (c .before .token-at .ensures) (c .binding .ensures)
 
 returns-2 : tie.Need-returns-2
-returns-2 c = c .binding-at2 .ensures ∙ ap (behindPart _ _) (sym (c .before .before .part2 .given .1))
+returns-2 c = by-token _ _ _ _ _ _ _ refl (c .before .before .before .part2 .given .1) (c .before .token-at2 .ensures) (c .binding2 .ensures)
 
 returns-3 : tie.Need-returns-3
 returns-3 c = search needs
@@ -34,9 +51,11 @@ operator-behind-spec =
     tie.close
     (tie.spec
     enum-known-part
-    binding-at-requires
+    token-at-requires
+    binding-requires
     enum-known-part-2
-    binding-at-requires-2
+    token-at-requires-2
+    binding-requires-2
     enum-told
     returns
     returns-2
