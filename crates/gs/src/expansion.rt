@@ -3,6 +3,7 @@ ghost use mathlib.Core.Path.{_≡_};
 ghost use mathlib.Core.List.{List};
 ghost use Prim.Native.Nat.{ℕ, _+_, _*_, _≤_, _^_};
 ghost use lib.ListN.{length};
+ghost use Rattle.variables.specs.Indexes.{indexOf};
 ghost use Rattle.variables.specs.Names.{namesOf};
 ghost use Rattle.gs.specs.Readings.{whole, expands};
 ghost use Rattle.gs.specs.Steps.{Came, Read, pieceOf, lengthIn, behindAt};
@@ -53,13 +54,14 @@ fn stop(number: u8, place: usize) -> Progress
 fn follow(
     referred: Referred,
     table: &[u8],
+    index: &[u32],
     levels: u8,
     left: u32,
     place: usize,
     at: usize,
     out: &mut [u8],
 ) -> Progress
-    requires { ⌜ (at + 255 * left + 255 ≤ 2 ^ 40) × (lengthIn referred ≤ 255) ⌝ }
+    requires { ⌜ (at + 255 * left + 255 ≤ 2 ^ 40) × (lengthIn referred ≤ 255) × (now index ≡ indexOf (now table)) ⌝ }
     ensures { λ r. ⌜ ((name : List ℕ) → Came (pieceOf (now (table .entry)) (expands (namesOf (now (table .entry))) levels) referred name place) left at (now (out .entry)) (now (out .exit)) r) ⌝ }
 {
     match referred {
@@ -86,7 +88,16 @@ fn follow(
             }
             let value = variables::value_of(table, v);
             behind(
-                expand(value, table, Flags::none(), levels - 1, left - 1, at, out),
+                expand(
+                    value,
+                    table,
+                    index,
+                    Flags::none(),
+                    levels - 1,
+                    left - 1,
+                    at,
+                    out,
+                ),
                 place,
             )
         }
@@ -108,13 +119,14 @@ fn behind(came: Expanded, place: usize) -> Progress
 pub(crate) fn expand(
     text: &[u8],
     table: &[u8],
+    index: &[u32],
     flags: Flags,
     levels: u8,
     left: u32,
     at: usize,
     out: &mut [u8],
 ) -> Expanded
-    requires { ⌜ (length (now text) ≤ 65535) × (at + length (now text) + 255 * left + 255 ≤ 2 ^ 40) ⌝ }
+    requires { ⌜ (length (now text) ≤ 65535) × (at + length (now text) + 255 * left + 255 ≤ 2 ^ 40) × (now index ≡ indexOf (now table)) ⌝ }
     ensures { λ r. ⌜ Read (whole (namesOf (now (table .entry))) (expands (namesOf (now (table .entry))) levels) (now (text .entry)) (flags .0)) (length (now (text .entry))) left at (now (out .entry)) (now (out .exit)) r ⌝ }
 {
     let first = symbols::open(text, flags);
@@ -150,8 +162,8 @@ pub(crate) fn expand(
                 here = next;
             }
             Symbol::Reference { start, end, next } => {
-                let referred = references::resolve(&text[start..end], table);
-                let came = follow(referred, table, levels, rest, here, to, out);
+                let referred = references::resolve(&text[start..end], table, index);
+                let came = follow(referred, table, index, levels, rest, here, to, out);
                 match came {
                     Progress::Going { at: a, left: l } => {
                         to = a;

@@ -3,6 +3,7 @@ ghost use mathlib.Core.Path.{_≡_};
 ghost use Prim.Native.Nat.{_≤_};
 ghost use lib.ListN.{length};
 ghost use Rattle.paper.specs.Traces.{bytes, answer};
+ghost use Rattle.variables.specs.Indexes.{indexOf};
 ghost use Rattle.gs.specs.Translations.{readingOf, refusedAt, translatedBy, leftBy, translated, outAfter};
 
 mod bytes;
@@ -61,20 +62,27 @@ fn refused(number: u8, place: usize, need: usize, free: usize) -> Translated
 }
 
 // A text over a good table. The first pass is lent nothing and measures; only when all of it has room does the second write.
-fn fill(text: &[u8], table: &[u8], flags: Flags, left: u32, out: &mut [u8]) -> Translated
-    requires { ⌜ (length (now text) ≤ 65535) × (left ≤ 1024) ⌝ }
+fn fill(
+    text: &[u8],
+    table: &[u8],
+    index: &[u32],
+    flags: Flags,
+    left: u32,
+    out: &mut [u8],
+) -> Translated
+    requires { ⌜ (length (now text) ≤ 65535) × (left ≤ 1024) × (now index ≡ indexOf (now table)) ⌝ }
     ensures answer { λ r. ⌜ r ≡ translatedBy (answer (readingOf (now (text .entry)) (now (table .entry)) (flags .0)) left (length (now (out .entry)))) ⌝ }
     ensures buffer { λ r. ⌜ now (out .exit) ≡ leftBy r (bytes (readingOf (now (text .entry)) (now (table .entry)) (flags .0))) (now (out .entry)) ⌝ }
 {
     let room = out.len();
-    let measured = expansion::expand(text, table, flags, LEVELS, left, 0, &mut out[0..0]);
+    let measured = expansion::expand(text, table, index, flags, LEVELS, left, 0, &mut out[0..0]);
     match measured {
         Expanded::Halted { number, place } => refused(number, place, 0, room),
         Expanded::Ended { end, at, left: _ } => {
             if room < at {
                 return refused(NO_ROOM, 0, at, room);
             }
-            expansion::expand(text, table, flags, LEVELS, left, 0, out);
+            expansion::expand(text, table, index, flags, LEVELS, left, 0, out);
             Translated::Written {
                 end: TextPlace(end),
                 need: at,
@@ -99,13 +107,14 @@ pub fn translate(
     if LONGEST < text.len() {
         return refused(OVER_LENGTH, 0, 0, room);
     }
-    let checked = variables::check_table(table);
+    let mut index = [0u32; 256];
+    let checked = variables::index_table(table, &mut index);
     match checked {
         Checked::Refused { number, at } => Translated::BadTable {
             number,
             at,
             free: room,
         },
-        Checked::Good(_) => fill(text, table, flags, cap(allowance), out),
+        Checked::Good(count) => fill(text, table, &index[0..count], flags, cap(allowance), out),
     }
 }

@@ -11,6 +11,7 @@ ghost use Rattle.numbers.specs.Strings.{string};
 ghost use Rattle.reader.specs.Reading.{numberOf};
 ghost use Rattle.variables.specs.Records as Records;
 ghost use Rattle.variables.specs.Tables.{foundAs, meaningOf};
+ghost use Rattle.variables.specs.Indexes.{indexOf};
 ghost use Rattle.variables.specs.Names.{pattern};
 ghost use Rattle.gs.specs.Readings.{givesAll, decimalOf};
 ghost use Rattle.gs.specs.Steps.{Came, kinded, variableAs, referredIn};
@@ -54,13 +55,14 @@ fn as_found(found: Found) -> Referred
 }
 
 // The name path: a number that is too big is refused, and every other content is a name.
-fn as_name(number: u8, content: &[u8], table: &[u8]) -> Referred
+fn as_name(number: u8, content: &[u8], table: &[u8], index: &[u32]) -> Referred
+    requires { ⌜ now index ≡ indexOf (now table) ⌝ }
     ensures { λ r. ⌜ r ≡ cond (eqb number «too-big») Referred.TooBig (variableAs (now (table .entry)) (meaningOf (now (table .entry)) (now (content .entry)))) ⌝ }
 {
     if number == TOO_BIG {
         return Referred::TooBig;
     }
-    as_found(variables::find(table, content))
+    as_found(variables::index::find(table, index, content))
 }
 
 fn refusal_of(answer: Reading) -> u8
@@ -73,12 +75,13 @@ fn refusal_of(answer: Reading) -> u8
 }
 
 // What the content of a reference stands for: a value becomes a byte, otherwise it goes the name path.
-pub(crate) fn resolve(content: &[u8], table: &[u8]) -> Referred
+pub(crate) fn resolve(content: &[u8], table: &[u8], index: &[u32]) -> Referred
+    requires { ⌜ now index ≡ indexOf (now table) ⌝ }
     ensures { λ r. ⌜ r ≡ referredIn (now (table .entry)) (now (content .entry)) ⌝ }
 {
     let answer = reader::read_unsigned(content, true, 4294967295);
     let Reading::Value(n) = answer else {
-        return as_name(refusal_of(answer), content, table);
+        return as_name(refusal_of(answer), content, table, index);
     };
     Referred::Number((n.value % 256) as u8)
 }

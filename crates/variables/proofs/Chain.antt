@@ -1,6 +1,6 @@
 -- Records that lie one behind the other: a walk meets exactly them, and those before one of them are a walk's up to it.
 use mathlib.Core.List.{List, [], _∷_, _++_, List·Memᴰ, List·Memᴰ·head as head, List·Memᴰ·tail as tail}
-use mathlib.Core.Path.{_≡_, refl, ap, sym, _∙_}
+use mathlib.Core.Path.{_≡_, refl, ap, sym, subst, _∙_}
 use Prim.Native.Nat.{ℕ, zero, suc, _≤_}
 use native.Mathlib.Omega.{arith}
 use borrow.Author.Tests.{lt-ltb}
@@ -51,3 +51,8 @@ module _ {table : List ℕ} where
   split {place = place} (next r) (tail m) =
       let s = split r m in
       record { front = entryAt table place ∷ s .front; back = s .back; whole = ap (_∷_ (entryAt table place)) (s .whole); up-to = next (s .up-to) }
+
+  -- one record more at the end
+  pub snoc : {stop place : ℕ} {es : List Entry} → Chain table stop place es → Chain table (nextPlace table stop) place (es ++ (entryAt table stop ∷ []))
+  snoc {place = place} (end e) = subst (λ s. Chain table (nextPlace table s) place (entryAt table s ∷ [])) e (next (end refl))
+  snoc (next r) = next (snoc r)

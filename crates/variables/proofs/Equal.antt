@@ -57,7 +57,7 @@ bytes-same (x ∷ xs) (y ∷ ys) e =
     ap₂ _∷_ (eqb-true x y (both .0)) (bytes-same xs ys (both .1))
 
 -- equal names are those with equal small bytes
-folded : (a b : List ℕ) → sameName a b ≡ true → map small a ≡ map small b
+pub folded : (a b : List ℕ) → sameName a b ≡ true → map small a ≡ map small b
 unfolding sameName
 folded a b e = bytes-same (map small a) (map small b) e
 

@@ -62,7 +62,7 @@ module _ (table : List ℕ) (place : ℕ) where
   unfolding sound
   sound-whole e = shaped-whole (both (shaped table place) e .0)
 
-  next-inside : sound table place ≡ true → nextPlace table place ≤ length table
+  pub next-inside : sound table place ≡ true → nextPlace table place ≤ length table
   unfolding entryAt
   next-inside e = let w = sound-whole e in omega (arith, w .inside, w .name-length, w .value-length)
 

@@ -2,7 +2,11 @@
 pub mod Equal
 pub mod Walks
 pub mod Chain
+pub mod Keys
+pub mod Lines
+pub mod Passed
 pub mod Good
+pub mod Indexed
 pub mod Unique
 pub mod Bounds
 pub mod Own

@@ -2,14 +2,16 @@
 ghost use mathlib.Core.Path.{_≡_};
 ghost use Prim.Native.Nat.{_<_, _≤_};
 ghost use lib.ListN.{length, take, drop};
-ghost use Rattle.variables.specs.Records.{meaning};
-ghost use Rattle.variables.specs.Tables.{refused, before, isNew, sound, scanned, most, checked, meaningOf, foundAs, lookedUp};
+ghost use Rattle.variables.specs.Indexes.{linesOf, laidOver, reach};
+ghost use Rattle.variables.specs.Tables.{refused, before, isNew, sound, scanned, most, checked, lookedUp};
 
+pub mod index;
 pub mod integers;
 pub mod names;
 mod records;
 
-use names::same_name;
+use index::find;
+use index::line_at;
 use paper::BAD_TABLE;
 use paper::LONGEST;
 use paper::OVER_LENGTH;
@@ -51,15 +53,26 @@ fn refused(number: u8, place: usize) -> Checked
 pub fn check_table(table: &[u8]) -> Checked
     ensures { λ r. ⌜ r ≡ checked (now (table .entry)) ⌝ }
 {
+    let mut index = [0u32; 256];
+    index_table(table, &mut index)
+}
+
+// The same, and the index of the records that were found good, for look-ups.
+pub fn index_table(table: &[u8], index: &mut [u32; 256]) -> Checked
+    ensures answer { λ r. ⌜ r ≡ checked (now (table .entry)) ⌝ }
+    ensures index { λ r. ⌜ now (index .exit) ≡ laidOver (linesOf (before (now (table .entry)) (reach (now (table .entry)) r))) (now (index .entry)) ⌝ }
+{
     if LONGEST < table.len() {
         return refused(OVER_LENGTH, 0);
     }
-    scan(table)
+    scan(table, index)
 }
 
 // The records one behind the other, up to the first bad one.
-fn scan(table: &[u8]) -> Checked
-    ensures { λ r. ⌜ r ≡ scanned most 0 (now (table .entry)) 0 ⌝ }
+fn scan(table: &[u8], index: &mut [u32]) -> Checked
+    requires { ⌜ (length (now table) ≤ 65535) × (length (now index) ≡ 256) ⌝ }
+    ensures answer { λ r. ⌜ r ≡ scanned most 0 (now (table .entry)) 0 ⌝ }
+    ensures index { λ r. ⌜ now (index .exit) ≡ laidOver (linesOf (before (now (table .entry)) (reach (now (table .entry)) r))) (now (index .entry)) ⌝ }
 {
     let mut count = 0;
     let mut place = 0;
@@ -67,7 +80,8 @@ fn scan(table: &[u8]) -> Checked
         if count == MOST {
             return refused(BAD_TABLE, place);
         }
-        if is_sound(table, place) {
+        if is_sound(table, &index[0..count], place) {
+            index[count] = line_at(table, place);
             place = records::next_place(table, place);
             count += 1;
         } else {
@@ -77,62 +91,37 @@ fn scan(table: &[u8]) -> Checked
     Checked::Good(count)
 }
 
-fn is_sound(table: &[u8], place: usize) -> bool
-    requires { ⌜ place < length (now table) ⌝ }
+fn is_sound(table: &[u8], index: &[u32], place: usize) -> bool
+    requires place { ⌜ place < length (now table) ⌝ }
+    requires index { ⌜ now index ≡ linesOf (before (now table) place) ⌝ }
     ensures { λ r. ⌜ r ≡ sound (now (table .entry)) place ⌝ }
 {
     if records::is_shaped(table, place) {
-        return is_new(table, place);
+        return is_new(table, index, place);
     }
     false
 }
 
 // Whether no record before this one has an equal name.
-fn is_new(table: &[u8], place: usize) -> bool
-    requires { ⌜ place < length (now table) ⌝ }
+fn is_new(table: &[u8], index: &[u32], place: usize) -> bool
+    requires place { ⌜ place < length (now table) ⌝ }
+    requires index { ⌜ now index ≡ linesOf (before (now table) place) ⌝ }
     ensures { λ r. ⌜ r ≡ isNew (now (table .entry)) place ⌝ }
 {
-    match walk(table, place, records::name_at(table, place)) {
+    match find(table, index, records::name_at(table, place)) {
         Found::Nothing => true,
         Found::At(_) => false,
         Found::Unsound { number: _, at: _ } => false,
     }
 }
 
-// The first record with a name, among those that start before `stop`. Any bytes are walked: a part that the slice's end cuts
-// off is shorter, and 256 records are the most that are looked at.
-fn walk(table: &[u8], stop: usize, name: &[u8]) -> Found
-    requires { ⌜ stop ≤ length (now table) ⌝ }
-    ensures { λ r. ⌜ r ≡ foundAs (now (table .entry)) (meaning (before (now (table .entry)) stop) (now (name .entry))) ⌝ }
-{
-    let mut left = MOST;
-    let mut at = 0;
-    while at < stop {
-        if left == 0 {
-            return Found::Nothing;
-        }
-        if same_name(records::name_at(table, at), name) {
-            return Found::At(records::variable_at(table, at));
-        }
-        at = records::next_place(table, at);
-        left -= 1;
-    }
-    Found::Nothing
-}
-
-// What a name means in a table that is known to be good; of any other bytes, what their records say as far as they go.
-pub fn find(table: &[u8], name: &[u8]) -> Found
-    ensures { λ r. ⌜ r ≡ foundAs (now (table .entry)) (meaningOf (now (table .entry)) (now (name .entry))) ⌝ }
-{
-    walk(table, table.len(), name)
-}
-
 // What a name means in any bytes: a table that is not good is refused first.
 pub fn look_up(table: &[u8], name: &[u8]) -> Found
     ensures { λ r. ⌜ r ≡ lookedUp (now (table .entry)) (now (name .entry)) ⌝ }
 {
-    match check_table(table) {
-        Checked::Good(_) => find(table, name),
+    let mut index = [0u32; 256];
+    match index_table(table, &mut index) {
+        Checked::Good(count) => find(table, &index[0..count], name),
         Checked::Refused { number, at } => Found::Unsound { number, at },
     }
 }

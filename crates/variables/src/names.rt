@@ -1,8 +1,9 @@
 // The bytes of a name: which ones are allowed, and when two names are equal.
 ghost use mathlib.Core.Path.{_≡_};
 ghost use mathlib.Core.Bool.{cond};
-ghost use Prim.Native.Nat.{_≤_, min};
+ghost use Prim.Native.Nat.{_<_, _≤_, min};
 ghost use lib.Dec.{eqb};
+ghost use Rattle.variables.specs.Indexes.{keyOf};
 ghost use Rattle.variables.specs.Records.{nameByte, allNameBytes, small, sameName};
 
 // A byte that a name may have. The quote, "<" and ">" mean something in a text.
@@ -49,6 +50,19 @@ fn small(c: u8) -> u8
         return c;
     }
     c + 32
+}
+
+// A number below 65536 for a name: equal names have the same.
+pub(crate) fn key_of(name: &[u8]) -> u32
+    ensures { λ r. ⌜ (r ≡ keyOf (now (name .entry))) × (r < 65536) ⌝ }
+{
+    let mut key: u32 = 0;
+    let mut at = 0;
+    while at < name.len() {
+        key = (31 * key + (small(name[at]) as u32)) % 65536;
+        at += 1;
+    }
+    key
 }
 
 // 1 where two bytes differ in more than the case of A to Z, else 0.

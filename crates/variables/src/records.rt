@@ -1,6 +1,6 @@
 // One record of a table, by the place where its mark starts: its parts, and whether it has a record's shape.
 ghost use mathlib.Core.Path.{_≡_};
-ghost use Prim.Native.Nat.{_+_, _<_, _≤_};
+ghost use Prim.Native.Nat.{_+_, _<_, _≤_, _^_};
 ghost use lib.ListN.{length, getD, take, drop};
 ghost use Rattle.variables.specs.Records.{nameAt, nextPlace, fitting, headed, sized, shaped, entryAt};
 ghost use Rattle.variables.specs.Tables.{variableAt};
@@ -31,7 +31,7 @@ pub(crate) fn part<'a>(table: &'a [u8], start: usize, length: usize) -> &'a [u8]
 }
 
 pub(crate) fn name_at<'a>(table: &'a [u8], place: usize) -> &'a [u8]
-    requires { ⌜ place < length (now table) ⌝ }
+    requires { ⌜ place ≤ 2 ^ 63 ⌝ }
     ensures { λ r. ⌜ now r ≡ nameAt (now (table .entry)) place ⌝ }
 {
     part(table, place + 5, length_at(table, place + 3))
@@ -46,7 +46,7 @@ pub(crate) fn next_place(table: &[u8], place: usize) -> usize
 }
 
 pub(crate) fn variable_at(table: &[u8], place: usize) -> Variable
-    requires { ⌜ place < length (now table) ⌝ }
+    requires { ⌜ place ≤ 2 ^ 63 ⌝ }
     ensures { λ r. ⌜ r ≡ variableAt (now (table .entry)) (entryAt (now (table .entry)) place) ⌝ }
 {
     Variable {

@@ -1,4 +1,4 @@
--- `is_new` meets its contract: a walk over the records before comes to nothing where none of them has an equal name.
+-- `is_new` meets its contract: a look-up among the records before comes to nothing where none of them has an equal name.
 use mathlib.Core.Bool.{Bool, true, false}
 use mathlib.Core.List.{List}
 use mathlib.Core.Path.{_≡_, refl, ap, sym, _∙_}
@@ -8,6 +8,7 @@ use Rattle.variables.specs.Records.{nameAt, Meaning, nothing, means, mea
 use Rattle.variables.specs.Tables.{before, isNew, foundAs}
 use Rattle.variables.specs.declared.Found.{Found}
 use Rattle.variables.specs.declared.Found.the-variants.{At, Nothing, Unsound}
+use Rattle.variables.proofs.Lines.{by-index}
 use Rattle.variables.proofs.is_new.Statement.{statement}
 use Rattle.variables.proofs.is_new.Tie as tie
 
@@ -20,24 +21,27 @@ none-found : (table : List ℕ) (m : Meaning) → none (foundAs table m) ≡ isN
 none-found table nothing = refl
 none-found table (means e) = refl
 
--- where the walk has ended
-module _ (c : tie.After-walk) where
+-- where the look-up has ended
+module _ (c : tie.After-find) where
+  abbrev start : tie.Start
+  start = c .before .before .before .before
+
   abbrev table : List ℕ
-  table = c .before .before .before .args .table .now
+  table = start .args .table .now
 
   abbrev place : ℕ
-  place = c .before .before .before .args .place
+  place = start .args .place
 
-  known : none (c .walk .result) ≡ isNew table place
+  known : none (c .find .result) ≡ isNew table place
   known =
-      ap none (c .walk .ensures ∙ ap (λ name. foundAs table (meaning (before table place) name)) (c .before .name-at .ensures))
+      ap none (c .find .ensures ∙ ap (foundAs table) (by-index table _ place (start .pre .1) ∙ ap (meaning (before table place)) (c .before .name-at .ensures)))
       ∙ none-found table (meaning (before table place) (nameAt table place))
 
 name-at-requires : tie.Need-name-at-requires
 name-at-requires c κs = search needs
 
-walk-requires : tie.Need-walk-requires
-walk-requires c κs = search needs
+find-requires : tie.Need-find-requires
+find-requires c κs = search needs
 
 enum-told : tie.Need-enum-told
 enum-told c = search needs
@@ -62,7 +66,7 @@ is-new-spec =
     tie.close
     (tie.spec
     name-at-requires
-    walk-requires
+    find-requires
     enum-told
     enum-told-2
     enum-told-3

@@ -1,27 +1,33 @@
--- `scan` meets its contract. The loop's invariant: the scan comes to what it comes to from there on, with what is left of 256 records.
+-- `scan` meets its contract. The loop's invariant: the scan comes to what it comes to from there on, with what is left of 256 records;
+-- the records before are passed, and their lines are laid.
 -- The measure is what is left of the length.
 use mathlib.Core.Bool.{true, false}
 use mathlib.Core.List.{List}
-use mathlib.Core.Path.{_≡_, refl, sym, _∙_}
+use mathlib.Core.Path.{_≡_, refl, ap, sym, _∙_}
 use Prim.Native.Nat.{ℕ, zero, suc, _+_, _-_, _<_, _≤_}
 use native.Mathlib.Numerals.{add-one}
 use native.Mathlib.Omega.{arith}
 use borrow.Author.Needs.{needs}
 use borrow.Author.Tests.{le-leb, lt-leb}
-use lib.ListN.{length}
+use lib.ListN.{length, length-set}
 use Rattle.paper.specs.Refusals.{bad-table}
 use Rattle.variables.specs.Records.{nextPlace}
-use Rattle.variables.specs.Tables.{sound, refused, scanned, most}
+use Rattle.variables.specs.Tables.{sound, refused, scanned, most, before}
+use Rattle.variables.specs.Indexes.{linesOf, laidOver, reach}
 use Rattle.variables.specs.declared.Checked.{Checked}
 use Rattle.variables.specs.declared.Checked.the-variants.{Good}
+use Rattle.variables.proofs.Good.{next-inside}
+use Rattle.variables.proofs.Passed.{Passed, at-first, passed-part, passed-more}
 use Rattle.variables.proofs.scan.Statement.{statement}
 use Rattle.variables.proofs.scan.Tie as tie
 
 abbrev Inv-loop : tie.InvT-loop
-Inv-loop table count₀ place₀ count place = (count ≤ most) × (scanned most 0 table 0 ≡ scanned (most - count) count table place)
+Inv-loop table index₀ count₀ place₀ index count place =
+    (count ≤ most) × (place ≤ length table) × (length index₀ ≡ most) × (length index ≡ most)
+    × (scanned most 0 table 0 ≡ scanned (most - count) count table place) × Passed table index₀ index count place
 
 abbrev μ-loop : tie.MeasureT-loop
-μ-loop table count₀ place₀ count place = length table - place
+μ-loop table index₀ count₀ place₀ index count place = length table - place
 
 module _ (table : List ℕ) (count place : ℕ) where
   abbrev rest : Checked
@@ -53,19 +59,48 @@ module _ (table : List ℕ) (count place : ℕ) where
       unfolding scanned
       more e q = rw (left, lt-leb (length table) place h, e, q, add-one)
 
+-- a refusal's place is how far the check came
+laid-to : (table index : List ℕ) (place : ℕ) {r : Checked} → r ≡ refused bad-table place →
+    laidOver (linesOf (before table place)) index ≡ laidOver (linesOf (before table (reach table r))) index
+laid-to table index place e = ap (λ r. laidOver (linesOf (before table (reach table r))) index) (sym e)
+
 loop-holds : tie.Need-loop-holds Inv-loop μ-loop
-loop-holds c = (omega arith, refl)
+loop-holds c = (omega arith, omega arith, omega arith, omega arith, refl, at-first _ _)
 
 refused-requires : tie.Need-refused-requires Inv-loop μ-loop
 refused-requires c κs = search needs
 
+same-length : tie.Need-same-length Inv-loop μ-loop
+same-length c = omega arith
+
 returns : tie.Need-returns Inv-loop μ-loop
 returns c =
     let t = c .before .before in
-    c .refused .ensures ∙ full _ _ _ (t .loop-test .taken) (c .before .if1 .taken) ∙ sym (t .before .loop .inv .1)
+    let i = t .before .loop .inv in (
+      c .refused .ensures ∙ full _ _ _ (t .loop-test .taken) (c .before .if1 .taken) ∙ sym (i .4),
+      i .5 .laid ∙ laid-to _ _ _ (c .refused .ensures),
+    )
+
+sub-is-sound : tie.Need-sub-is-sound Inv-loop μ-loop
+sub-is-sound c = search needs
+
+part-is-sound-start : tie.Need-part-is-sound-start Inv-loop μ-loop
+part-is-sound-start c = search needs
+
+part-is-sound-end : tie.Need-part-is-sound-end Inv-loop μ-loop
+part-is-sound-end c = omega arith
 
 is-sound-requires : tie.Need-is-sound-requires Inv-loop μ-loop
-is-sound-requires c κs = omega arith
+is-sound-requires c κs = (omega arith, passed-part _ _ (c .before .before .before .before .loop .inv .5))
+
+line-at-requires : tie.Need-line-at-requires Inv-loop μ-loop
+line-at-requires c κs = omega arith
+
+mul-index : tie.Need-mul-index Inv-loop μ-loop
+mul-index c = omega arith
+
+slice-write-index : tie.Need-slice-write-index Inv-loop μ-loop
+slice-write-index c = omega arith
 
 next-place-requires : tie.Need-next-place-requires Inv-loop μ-loop
 next-place-requires c κs = omega arith
@@ -78,24 +113,46 @@ loop-less c = omega arith
 
 loop-again : tie.Need-loop-again Inv-loop μ-loop
 loop-again c =
-    let s = c .before .before in
-    let t = s .before .before in
-    let sound-here = sym (s .is-sound .ensures) ∙ c .before .if2 .taken in
-    (omega arith, t .before .loop .inv .1 ∙ more _ _ _ (t .loop-test .taken) (t .before .loop .inv .0) (s .before .if1 .left) sound-here (c .next-place .ensures))
+    let s = c .before .before .before in
+    let t = s .before .before .before .before in
+    let i = t .before .loop .inv in
+    let few : t .before .loop .count < most = omega arith in
+    let sound-here = sym (s .is-sound .ensures) ∙ c .before .before .if2 .taken in
+    let on = more _ _ _ (t .loop-test .taken) (i .0) (s .before .before .before .if1 .left) sound-here (c .next-place .ensures) in (
+      omega arith,
+      omega (arith, next-inside _ _ sound-here),
+      i .2,
+      length-set (t .before .loop .index) (t .before .loop .count) _ ∙ i .3,
+      i .4 ∙ on,
+      passed-more _ _ (i .5) few (i .2) (c .before .line-at .ensures) (c .next-place .ensures),
+    )
 
 refused-requires-2 : tie.Need-refused-requires-2 Inv-loop μ-loop
 refused-requires-2 c κs = search needs
 
+same-length-2 : tie.Need-same-length-2 Inv-loop μ-loop
+same-length-2 c = omega arith
+
 returns-2 : tie.Need-returns-2 Inv-loop μ-loop
 returns-2 c =
     let s = c .before .before in
-    let t = s .before .before in
-    c .refused2 .ensures
-    ∙ bad _ _ _ (t .loop-test .taken) (t .before .loop .inv .0) (s .before .if1 .left) (sym (s .is-sound .ensures) ∙ c .before .if2 .left)
-    ∙ sym (t .before .loop .inv .1)
+    let t = s .before .before .before .before in
+    let i = t .before .loop .inv in (
+      c .refused2 .ensures
+          ∙ bad _ _ _ (t .loop-test .taken) (i .0) (s .before .before .before .if1 .left) (sym (s .is-sound .ensures) ∙ c .before .if2 .left)
+          ∙ sym (i .4),
+      i .5 .laid ∙ laid-to _ _ _ (c .refused2 .ensures),
+    )
+
+same-length-3 : tie.Need-same-length-3 Inv-loop μ-loop
+same-length-3 c = omega arith
 
 returns-3 : tie.Need-returns-3 Inv-loop μ-loop
-returns-3 c = at-end _ _ _ (c .loop-test .left) ∙ sym (c .before .loop .inv .1)
+returns-3 c =
+    let i = c .before .loop .inv in
+    let a = c .before .before .before .before .args in
+    let all : c .before .loop .place ≡ length (a .table .now) = omega arith in
+    (at-end _ _ _ (c .loop-test .left) ∙ sym (i .4), i .5 .laid ∙ ap (λ p. laidOver (linesOf (before (a .table .now) p)) (a .index .now)) all)
 
 pub scan-spec : {M : Type 1} → statement M
 scan-spec =
@@ -105,12 +162,21 @@ scan-spec =
     μ-loop
     loop-holds
     refused-requires
+    same-length
     returns
+    sub-is-sound
+    part-is-sound-start
+    part-is-sound-end
     is-sound-requires
+    line-at-requires
+    mul-index
+    slice-write-index
     next-place-requires
     add-count
     loop-less
     loop-again
     refused-requires-2
+    same-length-2
     returns-2
+    same-length-3
     returns-3)

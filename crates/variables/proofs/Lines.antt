@@ -1,0 +1,70 @@
+-- The lines of an index: what a name means by the lines of a table's records is what it means among the records.
+use mathlib.Core.Bool.{Bool, true, false, cond, _&&_, and-true, and-false}
+use mathlib.Core.List.{List, [], _∷_, _++_}
+use mathlib.Core.Path.{_≡_, refl, ap, sym, _∙_}
+use Prim.Native.Nat.{ℕ, zero, suc, _+_, _*_, _/_, _%_, _<_, _≤_}
+use native.Mathlib.Numerals.{add-one}
+use native.Mathlib.Omega.{arith}
+use borrow.Author.Tests.{eq-eqb}
+use lib.Dec.{ltb, eqb}
+use lib.ListN.{length, getD, drop, drop-of-length-le}
+use lib.Seq.{drop-cons}
+use Rattle.paper.proofs.Choice.{either}
+use Rattle.variables.specs.Records.{nextPlace, nameAt, sameName, Entry, entryAt, entries, nothing, means, meaning}
+use Rattle.variables.specs.Tables.{most, before}
+use Rattle.variables.specs.Indexes.{keyOf, lineOf, linesOf, names, meaningBy}
+use Rattle.variables.proofs.Keys.{key-small, same-key}
+
+-- one line of any index
+module _ (table index name : List ℕ) (at : ℕ) where
+  pub unmet : length index ≤ at → meaningBy table (drop at index) name ≡ nothing
+  unfolding meaningBy
+  unmet h = rw (drop-of-length-le index {i = at} h)
+
+  module _ (h : at < length index) where
+    pub met : names table (getD index at 0) name ≡ true → meaningBy table (drop at index) name ≡ means (entryAt table (getD index at 0 / 65536))
+    unfolding meaningBy
+    met e = rw (drop-cons index at 0, e)
+
+    pub not-met : names table (getD index at 0) name ≡ false → meaningBy table (drop at index) name ≡ meaningBy table (drop (at + 1) index) name
+    unfolding meaningBy
+    not-met e = rw (add-one, drop-cons index at 0, e)
+
+-- a record's line has its place and its key
+module _ (place key : ℕ) (h : key < 65536) where
+  pub place-in : (65536 * place + key) / 65536 ≡ place
+  place-in = omega arith
+
+  pub key-in : (65536 * place + key) % 65536 ≡ key
+  key-in = omega arith
+
+-- unequal keys are of unequal names
+same-or-other : (a b : List ℕ) → (eqb (keyOf a) (keyOf b) && sameName a b) ≡ sameName a b
+same-or-other a b = go (sameName a b) refl where
+  go : (t : Bool) → sameName a b ≡ t → (eqb (keyOf a) (keyOf b) && sameName a b) ≡ sameName a b
+  go true e = rw (eq-eqb (keyOf a) (keyOf b) (same-key a b e))
+  go false e = rw e (and-false (eqb (keyOf a) (keyOf b)))
+
+module _ (table name : List ℕ) where
+  one : (place : ℕ) → names table (lineOf (entryAt table place)) name ≡ sameName (nameAt table place) name
+  unfolding entryAt
+  one place =
+      let k = key-small (nameAt table place) in
+      rw (place-in place (keyOf (nameAt table place)) k, key-in place (keyOf (nameAt table place)) k) (same-or-other (nameAt table place) name)
+
+  one-more :
+      (place : ℕ) (es : List Entry) → meaningBy table (linesOf es) name ≡ meaning es name →
+      meaningBy table (linesOf (entryAt table place ∷ es)) name ≡ meaning (entryAt table place ∷ es) name
+  unfolding meaningBy meaning entryAt
+  one-more place es e = rw (one place, e, place-in place (keyOf (nameAt table place)) (key-small (nameAt table place)))
+
+  by-lines : (left stop place : ℕ) → meaningBy table (linesOf (entries left table stop place)) name ≡ meaning (entries left table stop place) name
+  unfolding meaningBy meaning entries
+  by-lines zero stop place = refl
+  by-lines (suc left) stop place =
+      either (λ es. meaningBy table (linesOf es) name ≡ meaning es name) (ltb place stop)
+      (λ _. one-more place (entries left table stop (nextPlace table place)) (by-lines left stop (nextPlace table place)))
+      (λ _. refl)
+
+  pub by-index : {index : List ℕ} (stop : ℕ) → index ≡ linesOf (before table stop) → meaningBy table index name ≡ meaning (before table stop) name
+  by-index stop e = ap (λ i. meaningBy table i name) e ∙ by-lines most stop 0

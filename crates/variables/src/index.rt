@@ -1,0 +1,56 @@
+// The index of a table's records: a line for each, with the record's place and a key of its name. A look-up goes over the lines, and
+// comes to the table only where the keys are equal: it does not follow the records' lengths, and compares few names.
+ghost use mathlib.Core.Path.{_≡_};
+ghost use mathlib.Core.Bool.{_&&_};
+ghost use Prim.Native.Nat.{_/_, _%_, _<_, _≤_};
+ghost use lib.Dec.{eqb};
+ghost use lib.ListN.{length};
+ghost use Rattle.variables.specs.Indexes.{lineOf, meaningBy};
+ghost use Rattle.variables.specs.Records.{nameAt, sameName, entryAt};
+ghost use Rattle.variables.specs.Tables.{foundAs};
+use crate::Found;
+use crate::names::key_of;
+use crate::names::same_name;
+use crate::records;
+
+// The line of the record at a place.
+pub(crate) fn line_at(table: &[u8], place: usize) -> u32
+    requires { ⌜ place ≤ 65535 ⌝ }
+    ensures { λ r. ⌜ r ≡ lineOf (entryAt (now (table .entry)) place) ⌝ }
+{
+    let key = key_of(records::name_at(table, place));
+    65536 * (place as u32) + key
+}
+
+fn place_in(line: u32) -> usize
+    ensures { λ r. ⌜ (r ≡ line / 65536) × (r ≤ 65535) ⌝ }
+{
+    (line / 65536) as usize
+}
+
+// Whether a line's record has a name of this key.
+fn is_named(table: &[u8], line: u32, key: u32, name: &[u8]) -> bool
+    ensures { λ r. ⌜ r ≡ (eqb (line % 65536) key && sameName (nameAt (now (table .entry)) (line / 65536)) (now (name .entry))) ⌝ }
+{
+    if line % 65536 == key {
+        return same_name(records::name_at(table, place_in(line)), name);
+    }
+    false
+}
+
+// The first record with a name, among those of an index. Any lines are gone through: a place that is not a record's is read as if
+// it were one.
+pub fn find(table: &[u8], index: &[u32], name: &[u8]) -> Found
+    ensures { λ r. ⌜ r ≡ foundAs (now (table .entry)) (meaningBy (now (table .entry)) (now (index .entry)) (now (name .entry))) ⌝ }
+{
+    let key = key_of(name);
+    let mut at = 0;
+    while at < index.len() {
+        let line = index[at];
+        if is_named(table, line, key, name) {
+            return Found::At(records::variable_at(table, place_in(line)));
+        }
+        at += 1;
+    }
+    Found::Nothing
+}
