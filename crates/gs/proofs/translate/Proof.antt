@@ -1,12 +1,14 @@
 -- `translate` meets its contract: 18 for the text, 18 and 13 for the table, then the reading.
-use mathlib.Core.Path.{_≡_, ap, sym, _∙_}
+use mathlib.Core.Path.{_≡_, refl, ap, sym, _∙_}
 use mathlib.Core.List.{List}
 use Prim.Native.Nat.{ℕ}
 use lib.ListN.{length}
 use Rattle.paper.specs.Traces.{bytes, answer}
-use Rattle.gs.specs.Translations.{readingOf, translatedBy, leftBy, translated, outAfter}
+use Rattle.gs.specs.Translations.{readingOf, translatedBy, translatedOver, leftBy, translated, outAfter}
 use Rattle.gs.proofs.Orders.{too-long, over}
 use Rattle.gs.specs.declared.Translated.{Translated}
+use Rattle.variables.specs.declared.Checked.{Checked}
+use Rattle.variables.proofs.Indexed.{lines-inside, all-lines}
 use borrow.Author.Needs.{needs}
 use Rattle.gs.proofs.translate.Statement.{statement}
 use Rattle.gs.proofs.translate.Tie as tie
@@ -30,26 +32,62 @@ returns c =
           ∙ left-by (a .text .now) (a .table .now) (a .flags .0) (a .allowance) (a .out .now) _ e,
     )
 
-check-table-requires : tie.Need-check-table-requires
-check-table-requires c κs = search needs
+index-table-requires : tie.Need-index-table-requires
+index-table-requires c κs = search needs
+
+-- where the table is checked
+module _ (c : tie.After-index-table) where
+  abbrev start : tie.Start
+  start = c .before .before .before .before .before .before
+
+  abbrev table : List ℕ
+  table = start .args .table .now
+
+  -- an answer by what was checked is the one that is defined
+  by-check :
+      {k : Checked} → c .index-table .result ≡ k →
+      let a = start .args in
+      translatedOver k (readingOf (a .text .now) table (a .flags .0)) (a .allowance) (length (a .out .now))
+      ≡ translated (a .text .now) table (a .flags .0) (a .allowance) (length (a .out .now))
+  by-check e =
+      let a = start .args in
+      over (a .text .now) table (a .flags .0) (a .allowance) (length (a .out .now)) _ (c .before .before .if1 .left)
+      (sym (c .index-table .ensures .0) ∙ e)
 
 enum-known-checked : tie.Need-enum-known-checked
 enum-known-checked c = search needs
 
-enum-told : tie.Need-enum-told
-enum-told c = search needs
+enum-known-checked-2 : tie.Need-enum-known-checked-2
+enum-known-checked-2 c = search needs
+
+sub-fill : tie.Need-sub-fill
+sub-fill c = search needs
+
+part-fill-start : tie.Need-part-fill-start
+part-fill-start c = search needs
+
+part-fill-end : tie.Need-part-fill-end
+part-fill-end c =
+    let t = c .before .before .before .before in
+    lines-inside (table t) (t .index-table .ensures .0) (c .before .before .checked2 .given .1) _ (t .index-table .ensures .1) refl
 
 cap-requires : tie.Need-cap-requires
 cap-requires c κs = search needs
 
 fill-requires : tie.Need-fill-requires
-fill-requires c κs = search needs
+fill-requires c κs =
+    let k = c .before .before .before .before .before in
+    let t = k .before .before in (
+      t .before .before .if1 .left,
+      c .before .cap .ensures .1,
+      all-lines (table t) (t .index-table .ensures .0) (k .checked2 .given .1) _ (t .index-table .ensures .1),
+    )
 
 returns-2 : tie.Need-returns-2
 returns-2 c =
-    let a = c .before .before .before .before .before .before .before .before .args in
-    let e = over (a .text .now) (a .table .now) (a .flags .0) (a .allowance) (length (a .out .now)) _ (c .before .before .before .before .if1 .left)
-    (sym (c .before .before .before .check-table .ensures) ∙ c .before .checked .given .1) in
+    let t = c .before .before .before in
+    let a = start t .args in
+    let e = by-check t (c .before .checked .given .1) in
     (e, left-by (a .text .now) (a .table .now) (a .flags .0) (a .allowance) (a .out .now) _ e)
 
 same-length : tie.Need-same-length
@@ -57,12 +95,14 @@ same-length c = search needs
 
 returns-3 : tie.Need-returns-3
 returns-3 c =
-    let a = c .before .before .before .before .before .before .before .before .before .before .before .before .args in
-    let t = readingOf (a .text .now) (a .table .now) (a .flags .0) in
-    let e = c .before .before .fill .ensures .0 ∙ ap (λ n. translatedBy (answer t n (length (a .out .now)))) (c .before .before .before .before .cap .ensures .0)
-    ∙ over (a .text .now) (a .table .now) (a .flags .0) (a .allowance) (length (a .out .now)) _ (c .before .before .before .before .before .before .before .before .if1 .left)
-    (sym (c .before .before .before .before .before .before .before .check-table .ensures) ∙ c .before .before .before .before .before .enum-told .given .1) in
-    (e, c .before .before .fill .ensures .1 ∙ left-by (a .text .now) (a .table .now) (a .flags .0) (a .allowance) (a .out .now) _ e)
+    let k = c .before .before .before .before .before .before .before .before in
+    let t = k .before .before in
+    let a = start t .args in
+    let reading = readingOf (a .text .now) (a .table .now) (a .flags .0) in
+    let fill = c .before .before .fill .ensures in
+    let e = fill .0 ∙ ap (λ n. translatedBy (answer reading n (length (a .out .now)))) (c .before .before .before .before .cap .ensures .0)
+    ∙ by-check t (k .checked2 .given .1) in
+    (e, fill .1 ∙ left-by (a .text .now) (a .table .now) (a .flags .0) (a .allowance) (a .out .now) _ e)
 
 pub translate-spec : {M : Type 1} → statement M
 translate-spec =
@@ -70,9 +110,12 @@ translate-spec =
     (tie.spec
     refused-requires
     returns
-    check-table-requires
+    index-table-requires
     enum-known-checked
-    enum-told
+    enum-known-checked-2
+    sub-fill
+    part-fill-start
+    part-fill-end
     cap-requires
     fill-requires
     returns-2

@@ -44,32 +44,32 @@ use Rattle.variables.proofs.value_of.Reads as value-of-reads
 use Rattle.gs.proofs.expansion.+expand+follow.{statement}
 use Rattle.gs.proofs.expansion.+expand+follow.Tie.{close}
 
-abbrev μ-expand : Measures 3 expand-kinds.ps ℕ
-μ-expand κs a = 2 * a .1 .1 .1 .0 + 1
+abbrev μ-expand : Measures 4 expand-kinds.ps ℕ
+μ-expand κs a = 2 * a .1 .1 .1 .1 .0 + 1
 
-abbrev μ-follow : Measures 2 follow-kinds.ps ℕ
-μ-follow κs a = 2 * a .1 .1 .0
+abbrev μ-follow : Measures 3 follow-kinds.ps ℕ
+μ-follow κs a = 2 * a .1 .1 .1 .0
 
-abbrev expand-at : ℕ → In 3 expand-kinds.ps
-expand-at t = and 3 expand-kinds.ps (is 3 expand-kinds.ps μ-expand t) expand.Pre
+abbrev expand-at : ℕ → In 4 expand-kinds.ps
+expand-at t = and 4 expand-kinds.ps (is 4 expand-kinds.ps μ-expand t) expand.Pre
 
-abbrev expand-below : ℕ → In 3 expand-kinds.ps
-expand-below t = and 3 expand-kinds.ps (falls 3 expand-kinds.ps _<_ μ-expand t) expand.Pre
+abbrev expand-below : ℕ → In 4 expand-kinds.ps
+expand-below t = and 4 expand-kinds.ps (falls 4 expand-kinds.ps _<_ μ-expand t) expand.Pre
 
-abbrev follow-at : ℕ → In 2 follow-kinds.ps
-follow-at t = and 2 follow-kinds.ps (is 2 follow-kinds.ps μ-follow t) follow.Pre
+abbrev follow-at : ℕ → In 3 follow-kinds.ps
+follow-at t = and 3 follow-kinds.ps (is 3 follow-kinds.ps μ-follow t) follow.Pre
 
-abbrev follow-below : ℕ → In 2 follow-kinds.ps
-follow-below t = and 2 follow-kinds.ps (falls 2 follow-kinds.ps _<_ μ-follow t) follow.Pre
+abbrev follow-below : ℕ → In 3 follow-kinds.ps
+follow-below t = and 3 follow-kinds.ps (falls 3 follow-kinds.ps _<_ μ-follow t) follow.Pre
 
 abbrev expand-Inv-loop : expand-lts.InvT-loop
-expand-Inv-loop text table flags levels left at out₀ mode here₀ to₀ rest₀ spaces-end out here to rest =
+expand-Inv-loop text table index flags levels left at out₀ mode here₀ to₀ rest₀ spaces-end out here to rest =
     Walk (namesOf table) (expands (namesOf table) levels) text (flags .0) left at out₀ mode out here to rest
 
 abbrev expand-μ-loop : expand-lts.MeasureT-loop
-expand-μ-loop text table flags levels left at out₀ mode here₀ to₀ rest₀ spaces-end out here to rest = length text + 1 - here
+expand-μ-loop text table index flags levels left at out₀ mode here₀ to₀ rest₀ spaces-end out here to rest = length text + 1 - here
 
--- what the functions that it calls ask and tell
+-- what the functions that `expand` calls ask and tell
 abbrev expand-calls : ℕ → expand-lts.Claims
 expand-calls t = (
   open-reads.Asked,
@@ -100,7 +100,7 @@ expand-is-ending-space-requires t c κs = search needs
 
 expand-loop-holds : (t : ℕ) → expand-lts.Need-loop-holds (expand-calls t) (expand-at t) expand.Post expand-Inv-loop expand-μ-loop
 expand-loop-holds t c =
-    let a = c .before .before .before .before .before .args in
+    let a = c .before .before .before .before .before .before .args in
     let names = namesOf (a .table .now) in
     start names (expands names (a .levels)) (a .text .now) (a .flags .0) (a .left) (a .at) (a .out .now) (c .before .open .result .mode)
     (c .before .open .result) (c .before .open .ensures) refl
@@ -127,7 +127,7 @@ expand-add-to : (t : ℕ) → expand-lts.Need-add-to (expand-calls t) (expand-at
 expand-add-to t c =
     let run = c .before .before .before .before .before .plain-end .ensures in
     let w = c .before .before .before .before .before .before .loop .inv in
-    omega (arith, c .before .before .before .before .before .before .before .before .before .before .before .before .pre .1, w .place, w .small, run .forward, run .inside)
+    omega (arith, c .before .before .before .before .before .before .before .before .before .before .before .before .before .pre .1, w .place, w .small, run .forward, run .inside)
 
 expand-symbol-at-requires : (t : ℕ) → expand-lts.Need-symbol-at-requires (expand-calls t) (expand-at t) expand.Post expand-Inv-loop expand-μ-loop
 expand-symbol-at-requires t c κs = c .before .before .before .before .before .plain-end .ensures .inside
@@ -141,7 +141,7 @@ module _ (t : ℕ) (c : expand-lts.After-symbol-at (expand-calls t) (expand-at t
   expand-turn = expand-passed .before
 
   abbrev expand-begun : expand-lts.Start (expand-calls t) (expand-at t) expand.Post expand-Inv-loop expand-μ-loop
-  expand-begun = expand-turn .before .before .before .before .before .before
+  expand-begun = expand-turn .before .before .before .before .before .before .before
 
   abbrev expand-here : ℕ
   expand-here = expand-passed .plain-end .result
@@ -173,7 +173,7 @@ module _ (t : ℕ) (c : expand-lts.After-symbol-at (expand-calls t) (expand-at t
   expand-stands : (s : Symbol) → c .symbol-at .result ≡ s → Stands (length expand-text) expand-here s
   expand-stands s e =
       symbol-stands expand-text (expand-begun .args .flags .0) expand-mode expand-here
-      (λ k. omega (arith, c .before .before .before .before .before .before .before .before .before .before .before .before .shared-slice-known .given k)) (expand-passed .plain-end .ensures .inside) (expand-turn .loop .inv .quote)
+      (λ k. omega (arith, c .before .before .before .before .before .before .before .before .before .before .before .before .before .shared-slice-known .given k)) (expand-passed .plain-end .ensures .inside) (expand-turn .loop .inv .quote)
       (sym (c .symbol-at .ensures) ∙ e)
 
 expand-enum-known-symbol : (t : ℕ) → expand-lts.Need-enum-known-symbol (expand-calls t) (expand-at t) expand.Post expand-Inv-loop expand-μ-loop
@@ -270,9 +270,9 @@ expand-follow-requires t c κs =
     let w = expand-walk t s in
     let r = c .before .before .before .before .symbol4 .given in
     let name = take (r .0 .1 .0 - r .0 .0) (drop (r .0 .0) (expand-text t s)) in
-    let small = value-small (a .table .now) (λ k. omega (arith, s .before .before .before .before .before .before .before .before .before .before .before .shared-slice-known2 .given k)) name in (
+    let small = value-small (a .table .now) (λ k. omega (arith, s .before .before .before .before .before .before .before .before .before .before .before .before .shared-slice-known2 .given k)) name in (
       omega (arith, pre .0),
-      (omega (arith, pre .1, w .place, w .small, w .inside), subst (λ r. lengthIn r ≤ 255) (sym (c .before .resolve .ensures)) small),
+      (omega (arith, pre .1, w .place, w .small, w .inside), subst (λ r. lengthIn r ≤ 255) (sym (c .before .resolve .ensures)) small, pre .1 .2),
     )
 
 expand-enum-known-came : (t : ℕ) → expand-lts.Need-enum-known-came (expand-calls t) (expand-at t) expand.Post expand-Inv-loop expand-μ-loop
@@ -293,7 +293,7 @@ expand-loop-again-2 t c =
     let r = c .before .before .before .before .before .before .before .before .before .before .symbol4 .given in
     let name = take (r .0 .1 .0 - r .0 .0) (drop (r .0 .0) (expand-text t s)) in
     let follow = c .before .before .before .before .before .follow in
-    let came = subst (λ k. Came (pieceOf (a .table .now) (expands names (a .levels)) k name (expand-here t s)) rest (expand-to t s) (expand-out t s) (follow .last .1 .1 .1 .1 .1 .1 .0) (follow .result))
+    let came = subst (λ k. Came (pieceOf (a .table .now) (expands names (a .levels)) k name (expand-here t s)) rest (expand-to t s) (expand-out t s) (follow .last .1 .1 .1 .1 .1 .1 .1 .0) (follow .result))
     (c .before .before .before .before .before .before .before .resolve .ensures) (follow .ensures name) in
     let piece = pieceOf (a .table .now) (expands names (a .levels)) (referredIn (a .table .now) name) name (expand-here t s) in
     let stands = expand-stands t s _ (r .1) in
@@ -317,735 +317,178 @@ expand-returns-3 t c =
     let r = c .before .before .before .before .before .before .before .before .before .before .symbol4 .given in
     let name = take (r .0 .1 .0 - r .0 .0) (drop (r .0 .0) (expand-text t s)) in
     let follow = c .before .before .before .before .before .follow in
-    let came = subst (λ k. Came (pieceOf (a .table .now) (expands names (a .levels)) k name (expand-here t s)) rest (expand-to t s) (expand-out t s) (follow .last .1 .1 .1 .1 .1 .1 .0) (follow .result))
+    let came = subst (λ k. Came (pieceOf (a .table .now) (expands names (a .levels)) k name (expand-here t s)) rest (expand-to t s) (expand-out t s) (follow .last .1 .1 .1 .1 .1 .1 .1 .0) (follow .result))
     (c .before .before .before .before .before .before .before .resolve .ensures) (follow .ensures name) in
     let piece = pieceOf (a .table .now) (expands names (a .levels)) (referredIn (a .table .now) name) name (expand-here t s) in
     let both = came-stopped piece rest (expand-to t s) (expand-out t s) _ _ _ _ came (c .before .came2 .given .1) in
     at-stop (a .table .now) (expands names (a .levels)) (expand-text t s) (a .flags .0) (a .left) (a .at) (a .out .now) (expand-mode t s) (expand-out t s) (expand-here t s) (expand-to t s) rest
     (r .0 .0) (r .0 .1 .0) (r .0 .1 .1 .0) (expand-walk t s) (sym (s .symbol-at .ensures) ∙ r .1) _ _ _ (both .0) (both .1)
 
+-- what the functions that `follow` calls ask and tell
+abbrev follow-calls : ℕ → follow-lts.Claims
+follow-calls t = (
+  put-reads.Asked,
+  put-reads.Learnt,
+  stop-reads.Asked,
+  stop-reads.Learnt,
+  value-of-reads.Asked,
+  value-of-reads.Learnt,
+  give-reads.Asked,
+  give-reads.Learnt,
+  give-integer-reads.Asked,
+  give-integer-reads.Learnt,
+  none-reads.Asked,
+  none-reads.Learnt,
+  expand-below t,
+  expand.Post,
+  behind-reads.Asked,
+  behind-reads.Learnt,
+)
+
 -- a value is no longer than its variable says
 part-short : (table value : List ℕ) (v : Variable) → value ≡ partOf table v → v .length ≤ 255 → length value ≤ 255
 part-short table value v e small = omega (arith, ap length e, length-take (v .length) (drop (v .start) table))
 
-follow-enum-known-referred : (t : ℕ) → follow-lts.Need-enum-known-referred (
-  put-reads.Asked,
-  put-reads.Learnt,
-  stop-reads.Asked,
-  stop-reads.Learnt,
-  value-of-reads.Asked,
-  value-of-reads.Learnt,
-  give-reads.Asked,
-  give-reads.Learnt,
-  give-integer-reads.Asked,
-  give-integer-reads.Learnt,
-  none-reads.Asked,
-  none-reads.Learnt,
-  expand-below t,
-  expand.Post,
-  behind-reads.Asked,
-  behind-reads.Learnt,
-) (follow-at t) follow.Post
+follow-enum-known-referred : (t : ℕ) → follow-lts.Need-enum-known-referred (follow-calls t) (follow-at t) follow.Post
 follow-enum-known-referred t c = search needs
 
-follow-put-requires : (t : ℕ) → follow-lts.Need-put-requires (
-  put-reads.Asked,
-  put-reads.Learnt,
-  stop-reads.Asked,
-  stop-reads.Learnt,
-  value-of-reads.Asked,
-  value-of-reads.Learnt,
-  give-reads.Asked,
-  give-reads.Learnt,
-  give-integer-reads.Asked,
-  give-integer-reads.Learnt,
-  none-reads.Asked,
-  none-reads.Learnt,
-  expand-below t,
-  expand.Post,
-  behind-reads.Asked,
-  behind-reads.Learnt,
-) (follow-at t) follow.Post
+follow-put-requires : (t : ℕ) → follow-lts.Need-put-requires (follow-calls t) (follow-at t) follow.Post
 follow-put-requires t c κs = search needs
 
-follow-add-t17 : (t : ℕ) → follow-lts.Need-add-t17 (
-  put-reads.Asked,
-  put-reads.Learnt,
-  stop-reads.Asked,
-  stop-reads.Learnt,
-  value-of-reads.Asked,
-  value-of-reads.Learnt,
-  give-reads.Asked,
-  give-reads.Learnt,
-  give-integer-reads.Asked,
-  give-integer-reads.Learnt,
-  none-reads.Asked,
-  none-reads.Learnt,
-  expand-below t,
-  expand.Post,
-  behind-reads.Asked,
-  behind-reads.Learnt,
-) (follow-at t) follow.Post
-follow-add-t17 t c = search needs
+follow-add-t18 : (t : ℕ) → follow-lts.Need-add-t18 (follow-calls t) (follow-at t) follow.Post
+follow-add-t18 t c = search needs
 
-follow-enum-told : (t : ℕ) → follow-lts.Need-enum-told (
-  put-reads.Asked,
-  put-reads.Learnt,
-  stop-reads.Asked,
-  stop-reads.Learnt,
-  value-of-reads.Asked,
-  value-of-reads.Learnt,
-  give-reads.Asked,
-  give-reads.Learnt,
-  give-integer-reads.Asked,
-  give-integer-reads.Learnt,
-  none-reads.Asked,
-  none-reads.Learnt,
-  expand-below t,
-  expand.Post,
-  behind-reads.Asked,
-  behind-reads.Learnt,
-) (follow-at t) follow.Post
+follow-enum-told : (t : ℕ) → follow-lts.Need-enum-told (follow-calls t) (follow-at t) follow.Post
 follow-enum-told t c = search needs
 
-follow-stop-requires : (t : ℕ) → follow-lts.Need-stop-requires (
-  put-reads.Asked,
-  put-reads.Learnt,
-  stop-reads.Asked,
-  stop-reads.Learnt,
-  value-of-reads.Asked,
-  value-of-reads.Learnt,
-  give-reads.Asked,
-  give-reads.Learnt,
-  give-integer-reads.Asked,
-  give-integer-reads.Learnt,
-  none-reads.Asked,
-  none-reads.Learnt,
-  expand-below t,
-  expand.Post,
-  behind-reads.Asked,
-  behind-reads.Learnt,
-) (follow-at t) follow.Post
+follow-stop-requires : (t : ℕ) → follow-lts.Need-stop-requires (follow-calls t) (follow-at t) follow.Post
 follow-stop-requires t c κs = search needs
 
-follow-enum-told-2 : (t : ℕ) → follow-lts.Need-enum-told-2 (
-  put-reads.Asked,
-  put-reads.Learnt,
-  stop-reads.Asked,
-  stop-reads.Learnt,
-  value-of-reads.Asked,
-  value-of-reads.Learnt,
-  give-reads.Asked,
-  give-reads.Learnt,
-  give-integer-reads.Asked,
-  give-integer-reads.Learnt,
-  none-reads.Asked,
-  none-reads.Learnt,
-  expand-below t,
-  expand.Post,
-  behind-reads.Asked,
-  behind-reads.Learnt,
-) (follow-at t) follow.Post
+follow-enum-told-2 : (t : ℕ) → follow-lts.Need-enum-told-2 (follow-calls t) (follow-at t) follow.Post
 follow-enum-told-2 t c = search needs
 
-follow-stop-requires-2 : (t : ℕ) → follow-lts.Need-stop-requires-2 (
-  put-reads.Asked,
-  put-reads.Learnt,
-  stop-reads.Asked,
-  stop-reads.Learnt,
-  value-of-reads.Asked,
-  value-of-reads.Learnt,
-  give-reads.Asked,
-  give-reads.Learnt,
-  give-integer-reads.Asked,
-  give-integer-reads.Learnt,
-  none-reads.Asked,
-  none-reads.Learnt,
-  expand-below t,
-  expand.Post,
-  behind-reads.Asked,
-  behind-reads.Learnt,
-) (follow-at t) follow.Post
+follow-stop-requires-2 : (t : ℕ) → follow-lts.Need-stop-requires-2 (follow-calls t) (follow-at t) follow.Post
 follow-stop-requires-2 t c κs = search needs
 
-follow-enum-known-referred-2 : (t : ℕ) → follow-lts.Need-enum-known-referred-2 (
-  put-reads.Asked,
-  put-reads.Learnt,
-  stop-reads.Asked,
-  stop-reads.Learnt,
-  value-of-reads.Asked,
-  value-of-reads.Learnt,
-  give-reads.Asked,
-  give-reads.Learnt,
-  give-integer-reads.Asked,
-  give-integer-reads.Learnt,
-  none-reads.Asked,
-  none-reads.Learnt,
-  expand-below t,
-  expand.Post,
-  behind-reads.Asked,
-  behind-reads.Learnt,
-) (follow-at t) follow.Post
+follow-enum-known-referred-2 : (t : ℕ) → follow-lts.Need-enum-known-referred-2 (follow-calls t) (follow-at t) follow.Post
 follow-enum-known-referred-2 t c = search needs
 
-follow-value-of-requires : (t : ℕ) → follow-lts.Need-value-of-requires (
-  put-reads.Asked,
-  put-reads.Learnt,
-  stop-reads.Asked,
-  stop-reads.Learnt,
-  value-of-reads.Asked,
-  value-of-reads.Learnt,
-  give-reads.Asked,
-  give-reads.Learnt,
-  give-integer-reads.Asked,
-  give-integer-reads.Learnt,
-  none-reads.Asked,
-  none-reads.Learnt,
-  expand-below t,
-  expand.Post,
-  behind-reads.Asked,
-  behind-reads.Learnt,
-) (follow-at t) follow.Post
+follow-value-of-requires : (t : ℕ) → follow-lts.Need-value-of-requires (follow-calls t) (follow-at t) follow.Post
 follow-value-of-requires t c κs = search needs
 
-follow-give-requires : (t : ℕ) → follow-lts.Need-give-requires (
-  put-reads.Asked,
-  put-reads.Learnt,
-  stop-reads.Asked,
-  stop-reads.Learnt,
-  value-of-reads.Asked,
-  value-of-reads.Learnt,
-  give-reads.Asked,
-  give-reads.Learnt,
-  give-integer-reads.Asked,
-  give-integer-reads.Learnt,
-  none-reads.Asked,
-  none-reads.Learnt,
-  expand-below t,
-  expand.Post,
-  behind-reads.Asked,
-  behind-reads.Learnt,
-) (follow-at t) follow.Post
+follow-give-requires : (t : ℕ) → follow-lts.Need-give-requires (follow-calls t) (follow-at t) follow.Post
 follow-give-requires t c κs =
     let k = c .before .before .before .referred2 .given in (
-      part-short (c .before .before .before .before .before .before .before .args .table .now) _ (k .0 .0) (c .before .value-of .ensures) (subst (λ r. lengthIn r ≤ 255) (k .1) (c .before .before .before .before .before .before .before .pre .1 .1)),
-      omega (arith, c .before .before .before .before .before .before .before .pre .1 .0),
+      part-short (c .before .before .before .before .before .before .before .before .args .table .now) _ (k .0 .0) (c .before .value-of .ensures) (subst (λ r. lengthIn r ≤ 255) (k .1) (c .before .before .before .before .before .before .before .before .pre .1 .1)),
+      omega (arith, c .before .before .before .before .before .before .before .before .pre .1 .0),
     )
 
-follow-enum-known-referred-3 : (t : ℕ) → follow-lts.Need-enum-known-referred-3 (
-  put-reads.Asked,
-  put-reads.Learnt,
-  stop-reads.Asked,
-  stop-reads.Learnt,
-  value-of-reads.Asked,
-  value-of-reads.Learnt,
-  give-reads.Asked,
-  give-reads.Learnt,
-  give-integer-reads.Asked,
-  give-integer-reads.Learnt,
-  none-reads.Asked,
-  none-reads.Learnt,
-  expand-below t,
-  expand.Post,
-  behind-reads.Asked,
-  behind-reads.Learnt,
-) (follow-at t) follow.Post
+follow-enum-known-referred-3 : (t : ℕ) → follow-lts.Need-enum-known-referred-3 (follow-calls t) (follow-at t) follow.Post
 follow-enum-known-referred-3 t c = search needs
 
-follow-value-of-requires-2 : (t : ℕ) → follow-lts.Need-value-of-requires-2 (
-  put-reads.Asked,
-  put-reads.Learnt,
-  stop-reads.Asked,
-  stop-reads.Learnt,
-  value-of-reads.Asked,
-  value-of-reads.Learnt,
-  give-reads.Asked,
-  give-reads.Learnt,
-  give-integer-reads.Asked,
-  give-integer-reads.Learnt,
-  none-reads.Asked,
-  none-reads.Learnt,
-  expand-below t,
-  expand.Post,
-  behind-reads.Asked,
-  behind-reads.Learnt,
-) (follow-at t) follow.Post
+follow-value-of-requires-2 : (t : ℕ) → follow-lts.Need-value-of-requires-2 (follow-calls t) (follow-at t) follow.Post
 follow-value-of-requires-2 t c κs = search needs
 
-follow-give-integer-requires : (t : ℕ) → follow-lts.Need-give-integer-requires (
-  put-reads.Asked,
-  put-reads.Learnt,
-  stop-reads.Asked,
-  stop-reads.Learnt,
-  value-of-reads.Asked,
-  value-of-reads.Learnt,
-  give-reads.Asked,
-  give-reads.Learnt,
-  give-integer-reads.Asked,
-  give-integer-reads.Learnt,
-  none-reads.Asked,
-  none-reads.Learnt,
-  expand-below t,
-  expand.Post,
-  behind-reads.Asked,
-  behind-reads.Learnt,
-) (follow-at t) follow.Post
+follow-give-integer-requires : (t : ℕ) → follow-lts.Need-give-integer-requires (follow-calls t) (follow-at t) follow.Post
 follow-give-integer-requires t c κs = search needs
 
-follow-enum-known-referred-4 : (t : ℕ) → follow-lts.Need-enum-known-referred-4 (
-  put-reads.Asked,
-  put-reads.Learnt,
-  stop-reads.Asked,
-  stop-reads.Learnt,
-  value-of-reads.Asked,
-  value-of-reads.Learnt,
-  give-reads.Asked,
-  give-reads.Learnt,
-  give-integer-reads.Asked,
-  give-integer-reads.Learnt,
-  none-reads.Asked,
-  none-reads.Learnt,
-  expand-below t,
-  expand.Post,
-  behind-reads.Asked,
-  behind-reads.Learnt,
-) (follow-at t) follow.Post
+follow-enum-known-referred-4 : (t : ℕ) → follow-lts.Need-enum-known-referred-4 (follow-calls t) (follow-at t) follow.Post
 follow-enum-known-referred-4 t c = search needs
 
-follow-stop-requires-3 : (t : ℕ) → follow-lts.Need-stop-requires-3 (
-  put-reads.Asked,
-  put-reads.Learnt,
-  stop-reads.Asked,
-  stop-reads.Learnt,
-  value-of-reads.Asked,
-  value-of-reads.Learnt,
-  give-reads.Asked,
-  give-reads.Learnt,
-  give-integer-reads.Asked,
-  give-integer-reads.Learnt,
-  none-reads.Asked,
-  none-reads.Learnt,
-  expand-below t,
-  expand.Post,
-  behind-reads.Asked,
-  behind-reads.Learnt,
-) (follow-at t) follow.Post
+follow-stop-requires-3 : (t : ℕ) → follow-lts.Need-stop-requires-3 (follow-calls t) (follow-at t) follow.Post
 follow-stop-requires-3 t c κs = search needs
 
-follow-returns : (t : ℕ) → follow-lts.Need-returns (
-  put-reads.Asked,
-  put-reads.Learnt,
-  stop-reads.Asked,
-  stop-reads.Learnt,
-  value-of-reads.Asked,
-  value-of-reads.Learnt,
-  give-reads.Asked,
-  give-reads.Learnt,
-  give-integer-reads.Asked,
-  give-integer-reads.Learnt,
-  none-reads.Asked,
-  none-reads.Learnt,
-  expand-below t,
-  expand.Post,
-  behind-reads.Asked,
-  behind-reads.Learnt,
-) (follow-at t) follow.Post
+follow-returns : (t : ℕ) → follow-lts.Need-returns (follow-calls t) (follow-at t) follow.Post
 follow-returns t c name =
-    let a = c .before .before .before .before .before .before .before .args in
+    let a = c .before .before .before .before .before .before .before .before .args in
     let names = namesOf (a .table .now) in
     let k = c .before .before .before .referred4 .given in
     too-deep-gives (a .table .now) (a .referred) name (a .left) (a .place) (a .at) (a .out .now) names (a .levels) (k .0 .0) (k .1) _ (c .before .if1 .taken) (c .stop3 .ensures)
 
-follow-stop-requires-4 : (t : ℕ) → follow-lts.Need-stop-requires-4 (
-  put-reads.Asked,
-  put-reads.Learnt,
-  stop-reads.Asked,
-  stop-reads.Learnt,
-  value-of-reads.Asked,
-  value-of-reads.Learnt,
-  give-reads.Asked,
-  give-reads.Learnt,
-  give-integer-reads.Asked,
-  give-integer-reads.Learnt,
-  none-reads.Asked,
-  none-reads.Learnt,
-  expand-below t,
-  expand.Post,
-  behind-reads.Asked,
-  behind-reads.Learnt,
-) (follow-at t) follow.Post
+follow-stop-requires-4 : (t : ℕ) → follow-lts.Need-stop-requires-4 (follow-calls t) (follow-at t) follow.Post
 follow-stop-requires-4 t c κs = search needs
 
-follow-returns-2 : (t : ℕ) → follow-lts.Need-returns-2 (
-  put-reads.Asked,
-  put-reads.Learnt,
-  stop-reads.Asked,
-  stop-reads.Learnt,
-  value-of-reads.Asked,
-  value-of-reads.Learnt,
-  give-reads.Asked,
-  give-reads.Learnt,
-  give-integer-reads.Asked,
-  give-integer-reads.Learnt,
-  none-reads.Asked,
-  none-reads.Learnt,
-  expand-below t,
-  expand.Post,
-  behind-reads.Asked,
-  behind-reads.Learnt,
-) (follow-at t) follow.Post
+follow-returns-2 : (t : ℕ) → follow-lts.Need-returns-2 (follow-calls t) (follow-at t) follow.Post
 follow-returns-2 t c name =
-    let a = c .before .before .before .before .before .before .before .before .args in
+    let a = c .before .before .before .before .before .before .before .before .before .args in
     let names = namesOf (a .table .now) in
     let k = c .before .before .before .before .referred4 .given in
     spent-gives (a .table .now) (a .referred) name (a .left) (a .place) (a .at) (a .out .now) names (a .levels) (k .0 .0) (k .1) _ (c .before .before .if1 .left) (c .before .if2 .taken) (c .stop4 .ensures)
 
-follow-value-of-requires-3 : (t : ℕ) → follow-lts.Need-value-of-requires-3 (
-  put-reads.Asked,
-  put-reads.Learnt,
-  stop-reads.Asked,
-  stop-reads.Learnt,
-  value-of-reads.Asked,
-  value-of-reads.Learnt,
-  give-reads.Asked,
-  give-reads.Learnt,
-  give-integer-reads.Asked,
-  give-integer-reads.Learnt,
-  none-reads.Asked,
-  none-reads.Learnt,
-  expand-below t,
-  expand.Post,
-  behind-reads.Asked,
-  behind-reads.Learnt,
-) (follow-at t) follow.Post
+follow-value-of-requires-3 : (t : ℕ) → follow-lts.Need-value-of-requires-3 (follow-calls t) (follow-at t) follow.Post
 follow-value-of-requires-3 t c κs = search needs
 
-follow-none-requires : (t : ℕ) → follow-lts.Need-none-requires (
-  put-reads.Asked,
-  put-reads.Learnt,
-  stop-reads.Asked,
-  stop-reads.Learnt,
-  value-of-reads.Asked,
-  value-of-reads.Learnt,
-  give-reads.Asked,
-  give-reads.Learnt,
-  give-integer-reads.Asked,
-  give-integer-reads.Learnt,
-  none-reads.Asked,
-  none-reads.Learnt,
-  expand-below t,
-  expand.Post,
-  behind-reads.Asked,
-  behind-reads.Learnt,
-) (follow-at t) follow.Post
+follow-none-requires : (t : ℕ) → follow-lts.Need-none-requires (follow-calls t) (follow-at t) follow.Post
 follow-none-requires t c κs = search needs
 
-follow-sub-expand : (t : ℕ) → follow-lts.Need-sub-expand (
-  put-reads.Asked,
-  put-reads.Learnt,
-  stop-reads.Asked,
-  stop-reads.Learnt,
-  value-of-reads.Asked,
-  value-of-reads.Learnt,
-  give-reads.Asked,
-  give-reads.Learnt,
-  give-integer-reads.Asked,
-  give-integer-reads.Learnt,
-  none-reads.Asked,
-  none-reads.Learnt,
-  expand-below t,
-  expand.Post,
-  behind-reads.Asked,
-  behind-reads.Learnt,
-) (follow-at t) follow.Post
+follow-sub-expand : (t : ℕ) → follow-lts.Need-sub-expand (follow-calls t) (follow-at t) follow.Post
 follow-sub-expand t c = search needs
 
-follow-sub-expand-2 : (t : ℕ) → follow-lts.Need-sub-expand-2 (
-  put-reads.Asked,
-  put-reads.Learnt,
-  stop-reads.Asked,
-  stop-reads.Learnt,
-  value-of-reads.Asked,
-  value-of-reads.Learnt,
-  give-reads.Asked,
-  give-reads.Learnt,
-  give-integer-reads.Asked,
-  give-integer-reads.Learnt,
-  none-reads.Asked,
-  none-reads.Learnt,
-  expand-below t,
-  expand.Post,
-  behind-reads.Asked,
-  behind-reads.Learnt,
-) (follow-at t) follow.Post
+follow-sub-expand-2 : (t : ℕ) → follow-lts.Need-sub-expand-2 (follow-calls t) (follow-at t) follow.Post
 follow-sub-expand-2 t c = search needs
 
-follow-expand-requires : (t : ℕ) → follow-lts.Need-expand-requires (
-  put-reads.Asked,
-  put-reads.Learnt,
-  stop-reads.Asked,
-  stop-reads.Learnt,
-  value-of-reads.Asked,
-  value-of-reads.Learnt,
-  give-reads.Asked,
-  give-reads.Learnt,
-  give-integer-reads.Asked,
-  give-integer-reads.Learnt,
-  none-reads.Asked,
-  none-reads.Learnt,
-  expand-below t,
-  expand.Post,
-  behind-reads.Asked,
-  behind-reads.Learnt,
-) (follow-at t) follow.Post
+follow-expand-requires : (t : ℕ) → follow-lts.Need-expand-requires (follow-calls t) (follow-at t) follow.Post
 follow-expand-requires t c κs =
     let k = c .before .before .before .before .before .before .referred4 .given in
-    let short = part-short (c .before .before .before .before .before .before .before .before .before .before .args .table .now) _ (k .0 .0) (c .before .before .value-of3 .ensures) (subst (λ r. lengthIn r ≤ 255) (k .1) (c .before .before .before .before .before .before .before .before .before .before .pre .1 .1)) in
-    (omega (arith, c .before .before .before .before .before .before .before .before .before .before .pre .0, c .before .before .before .before .if1 .left), (omega (arith, short), omega (arith, short, c .before .before .before .before .before .before .before .before .before .before .pre .1 .0, c .before .before .before .if2 .left)))
+    let short = part-short (c .before .before .before .before .before .before .before .before .before .before .before .args .table .now) _ (k .0 .0) (c .before .before .value-of3 .ensures) (subst (λ r. lengthIn r ≤ 255) (k .1) (c .before .before .before .before .before .before .before .before .before .before .before .pre .1 .1)) in
+    (omega (arith, c .before .before .before .before .before .before .before .before .before .before .before .pre .0, c .before .before .before .before .if1 .left), (omega (arith, short), omega (arith, short, c .before .before .before .before .before .before .before .before .before .before .before .pre .1 .0, c .before .before .before .if2 .left), c .before .before .before .before .before .before .before .before .before .before .before .pre .1 .2))
 
-follow-behind-requires : (t : ℕ) → follow-lts.Need-behind-requires (
-  put-reads.Asked,
-  put-reads.Learnt,
-  stop-reads.Asked,
-  stop-reads.Learnt,
-  value-of-reads.Asked,
-  value-of-reads.Learnt,
-  give-reads.Asked,
-  give-reads.Learnt,
-  give-integer-reads.Asked,
-  give-integer-reads.Learnt,
-  none-reads.Asked,
-  none-reads.Learnt,
-  expand-below t,
-  expand.Post,
-  behind-reads.Asked,
-  behind-reads.Learnt,
-) (follow-at t) follow.Post
+follow-behind-requires : (t : ℕ) → follow-lts.Need-behind-requires (follow-calls t) (follow-at t) follow.Post
 follow-behind-requires t c κs = search needs
 
-follow-same-length : (t : ℕ) → follow-lts.Need-same-length (
-  put-reads.Asked,
-  put-reads.Learnt,
-  stop-reads.Asked,
-  stop-reads.Learnt,
-  value-of-reads.Asked,
-  value-of-reads.Learnt,
-  give-reads.Asked,
-  give-reads.Learnt,
-  give-integer-reads.Asked,
-  give-integer-reads.Learnt,
-  none-reads.Asked,
-  none-reads.Learnt,
-  expand-below t,
-  expand.Post,
-  behind-reads.Asked,
-  behind-reads.Learnt,
-) (follow-at t) follow.Post
+follow-same-length : (t : ℕ) → follow-lts.Need-same-length (follow-calls t) (follow-at t) follow.Post
 follow-same-length t c = search needs
 
-follow-returns-3 : (t : ℕ) → follow-lts.Need-returns-3 (
-  put-reads.Asked,
-  put-reads.Learnt,
-  stop-reads.Asked,
-  stop-reads.Learnt,
-  value-of-reads.Asked,
-  value-of-reads.Learnt,
-  give-reads.Asked,
-  give-reads.Learnt,
-  give-integer-reads.Asked,
-  give-integer-reads.Learnt,
-  none-reads.Asked,
-  none-reads.Learnt,
-  expand-below t,
-  expand.Post,
-  behind-reads.Asked,
-  behind-reads.Learnt,
-) (follow-at t) follow.Post
+follow-returns-3 : (t : ℕ) → follow-lts.Need-returns-3 (follow-calls t) (follow-at t) follow.Post
 follow-returns-3 t c name =
-    let a = c .before .before .before .before .before .before .before .before .before .args in
+    let a = c .before .before .before .before .before .before .before .before .before .before .args in
     let names = namesOf (a .table .now) in
     let k = c .before .before .before .before .before .referred .given in
     number-gives (a .table .now) (a .referred) name (a .left) (a .place) (a .at) (a .out .now) (expands names (a .levels)) (k .0 .0) _ (k .1) (c .before .before .put .ensures)
 
-follow-returns-4 : (t : ℕ) → follow-lts.Need-returns-4 (
-  put-reads.Asked,
-  put-reads.Learnt,
-  stop-reads.Asked,
-  stop-reads.Learnt,
-  value-of-reads.Asked,
-  value-of-reads.Learnt,
-  give-reads.Asked,
-  give-reads.Learnt,
-  give-integer-reads.Asked,
-  give-integer-reads.Learnt,
-  none-reads.Asked,
-  none-reads.Learnt,
-  expand-below t,
-  expand.Post,
-  behind-reads.Asked,
-  behind-reads.Learnt,
-) (follow-at t) follow.Post
+follow-returns-4 : (t : ℕ) → follow-lts.Need-returns-4 (follow-calls t) (follow-at t) follow.Post
 follow-returns-4 t c name =
-    let a = c .before .before .before .before .before .args in
+    let a = c .before .before .before .before .before .before .args in
     let names = namesOf (a .table .now) in
     too-big-gives (a .table .now) (a .referred) name (a .left) (a .place) (a .at) (a .out .now) (expands names (a .levels)) _ (c .before .enum-told .given .1) (c .stop .ensures)
 
-follow-returns-5 : (t : ℕ) → follow-lts.Need-returns-5 (
-  put-reads.Asked,
-  put-reads.Learnt,
-  stop-reads.Asked,
-  stop-reads.Learnt,
-  value-of-reads.Asked,
-  value-of-reads.Learnt,
-  give-reads.Asked,
-  give-reads.Learnt,
-  give-integer-reads.Asked,
-  give-integer-reads.Learnt,
-  none-reads.Asked,
-  none-reads.Learnt,
-  expand-below t,
-  expand.Post,
-  behind-reads.Asked,
-  behind-reads.Learnt,
-) (follow-at t) follow.Post
+follow-returns-5 : (t : ℕ) → follow-lts.Need-returns-5 (follow-calls t) (follow-at t) follow.Post
 follow-returns-5 t c name =
-    let a = c .before .before .before .before .before .args in
+    let a = c .before .before .before .before .before .before .args in
     let names = namesOf (a .table .now) in
     unknown-gives (a .table .now) (a .referred) name (a .left) (a .place) (a .at) (a .out .now) (expands names (a .levels)) _ (c .before .enum-told2 .given .1) (c .stop2 .ensures)
 
-follow-same-length-2 : (t : ℕ) → follow-lts.Need-same-length-2 (
-  put-reads.Asked,
-  put-reads.Learnt,
-  stop-reads.Asked,
-  stop-reads.Learnt,
-  value-of-reads.Asked,
-  value-of-reads.Learnt,
-  give-reads.Asked,
-  give-reads.Learnt,
-  give-integer-reads.Asked,
-  give-integer-reads.Learnt,
-  none-reads.Asked,
-  none-reads.Learnt,
-  expand-below t,
-  expand.Post,
-  behind-reads.Asked,
-  behind-reads.Learnt,
-) (follow-at t) follow.Post
+follow-same-length-2 : (t : ℕ) → follow-lts.Need-same-length-2 (follow-calls t) (follow-at t) follow.Post
 follow-same-length-2 t c = search needs
 
-follow-returns-6 : (t : ℕ) → follow-lts.Need-returns-6 (
-  put-reads.Asked,
-  put-reads.Learnt,
-  stop-reads.Asked,
-  stop-reads.Learnt,
-  value-of-reads.Asked,
-  value-of-reads.Learnt,
-  give-reads.Asked,
-  give-reads.Learnt,
-  give-integer-reads.Asked,
-  give-integer-reads.Learnt,
-  none-reads.Asked,
-  none-reads.Learnt,
-  expand-below t,
-  expand.Post,
-  behind-reads.Asked,
-  behind-reads.Learnt,
-) (follow-at t) follow.Post
+follow-returns-6 : (t : ℕ) → follow-lts.Need-returns-6 (follow-calls t) (follow-at t) follow.Post
 follow-returns-6 t c name =
-    let a = c .before .before .before .before .before .before .before .before .before .before .args in
+    let a = c .before .before .before .before .before .before .before .before .before .before .before .args in
     let names = namesOf (a .table .now) in
     let k = c .before .before .before .before .before .before .referred2 .given in
     text-gives (a .table .now) (a .referred) name (a .left) (a .place) (a .at) (a .out .now) (expands names (a .levels)) (k .0 .0) _ _ _ (k .1) (c .before .before .before .before .value-of .ensures) (c .before .before .give .ensures name)
 
-follow-same-length-3 : (t : ℕ) → follow-lts.Need-same-length-3 (
-  put-reads.Asked,
-  put-reads.Learnt,
-  stop-reads.Asked,
-  stop-reads.Learnt,
-  value-of-reads.Asked,
-  value-of-reads.Learnt,
-  give-reads.Asked,
-  give-reads.Learnt,
-  give-integer-reads.Asked,
-  give-integer-reads.Learnt,
-  none-reads.Asked,
-  none-reads.Learnt,
-  expand-below t,
-  expand.Post,
-  behind-reads.Asked,
-  behind-reads.Learnt,
-) (follow-at t) follow.Post
+follow-same-length-3 : (t : ℕ) → follow-lts.Need-same-length-3 (follow-calls t) (follow-at t) follow.Post
 follow-same-length-3 t c = search needs
 
-follow-returns-7 : (t : ℕ) → follow-lts.Need-returns-7 (
-  put-reads.Asked,
-  put-reads.Learnt,
-  stop-reads.Asked,
-  stop-reads.Learnt,
-  value-of-reads.Asked,
-  value-of-reads.Learnt,
-  give-reads.Asked,
-  give-reads.Learnt,
-  give-integer-reads.Asked,
-  give-integer-reads.Learnt,
-  none-reads.Asked,
-  none-reads.Learnt,
-  expand-below t,
-  expand.Post,
-  behind-reads.Asked,
-  behind-reads.Learnt,
-) (follow-at t) follow.Post
+follow-returns-7 : (t : ℕ) → follow-lts.Need-returns-7 (follow-calls t) (follow-at t) follow.Post
 follow-returns-7 t c name =
-    let a = c .before .before .before .before .before .before .before .before .before .before .args in
+    let a = c .before .before .before .before .before .before .before .before .before .before .before .args in
     let names = namesOf (a .table .now) in
     let k = c .before .before .before .before .before .before .referred3 .given in
     integer-gives (a .table .now) (a .referred) name (a .left) (a .place) (a .at) (a .out .now) (expands names (a .levels)) (k .0 .0) _ _ _ (k .1) (c .before .before .before .before .value-of2 .ensures) (c .before .before .give-integer .ensures name)
 
-follow-same-length-4 : (t : ℕ) → follow-lts.Need-same-length-4 (
-  put-reads.Asked,
-  put-reads.Learnt,
-  stop-reads.Asked,
-  stop-reads.Learnt,
-  value-of-reads.Asked,
-  value-of-reads.Learnt,
-  give-reads.Asked,
-  give-reads.Learnt,
-  give-integer-reads.Asked,
-  give-integer-reads.Learnt,
-  none-reads.Asked,
-  none-reads.Learnt,
-  expand-below t,
-  expand.Post,
-  behind-reads.Asked,
-  behind-reads.Learnt,
-) (follow-at t) follow.Post
+follow-same-length-4 : (t : ℕ) → follow-lts.Need-same-length-4 (follow-calls t) (follow-at t) follow.Post
 follow-same-length-4 t c = search needs
 
-follow-returns-8 : (t : ℕ) → follow-lts.Need-returns-8 (
-  put-reads.Asked,
-  put-reads.Learnt,
-  stop-reads.Asked,
-  stop-reads.Learnt,
-  value-of-reads.Asked,
-  value-of-reads.Learnt,
-  give-reads.Asked,
-  give-reads.Learnt,
-  give-integer-reads.Asked,
-  give-integer-reads.Learnt,
-  none-reads.Asked,
-  none-reads.Learnt,
-  expand-below t,
-  expand.Post,
-  behind-reads.Asked,
-  behind-reads.Learnt,
-) (follow-at t) follow.Post
+follow-returns-8 : (t : ℕ) → follow-lts.Need-returns-8 (follow-calls t) (follow-at t) follow.Post
 follow-returns-8 t c name =
-    let a = c .before .before .before .before .before .before .before .before .before .before .before .before .before .before .args in
+    let a = c .before .before .before .before .before .before .before .before .before .before .before .before .before .before .before .args in
     let names = namesOf (a .table .now) in
     let k = c .before .before .before .before .before .before .before .before .before .before .referred4 .given in
-    let short = part-short (a .table .now) _ (k .0 .0) (c .before .before .before .before .before .before .value-of3 .ensures) (subst (λ r. lengthIn r ≤ 255) (k .1) (c .before .before .before .before .before .before .before .before .before .before .before .before .before .before .pre .1 .1)) in
+    let short = part-short (a .table .now) _ (k .0 .0) (c .before .before .before .before .before .before .value-of3 .ensures) (subst (λ r. lengthIn r ≤ 255) (k .1) (c .before .before .before .before .before .before .before .before .before .before .before .before .before .before .before .pre .1 .1)) in
     value-gives (a .table .now) (a .referred) name (a .left) (a .place) (a .at) (a .out .now) names (a .levels) (k .0 .0) (k .1) _ _ _ _ (c .before .before .before .before .before .before .before .before .if1 .left) (c .before .before .before .before .before .before .before .if2 .left) (c .before .before .before .before .before .before .value-of3 .ensures) short
-    (subst (λ f. Read (whole names (expands names (a .levels - 1)) (now (c .before .before .before .before .before .before .value-of3 .result)) f) (length (now (c .before .before .before .before .before .before .value-of3 .result))) (a .left - 1) (a .at) (a .out .now) (c .before .before .before .expand .last .1 .1 .1 .1 .1 .1 .0) (c .before .before .before .expand .result))
+    (subst (λ f. Read (whole names (expands names (a .levels - 1)) (now (c .before .before .before .before .before .before .value-of3 .result)) f) (length (now (c .before .before .before .before .before .before .value-of3 .result))) (a .left - 1) (a .at) (a .out .now) (c .before .before .before .expand .last .1 .1 .1 .1 .1 .1 .1 .0) (c .before .before .before .expand .result))
     (c .before .before .before .before .before .none .ensures) (c .before .before .before .expand .ensures))
     (c .behind .ensures)
 
@@ -1090,29 +533,11 @@ pub +expand+follow-spec : {M : Type 1} → statement M
     (expand-enum-known-came-2 t)
     (expand-same-length-3 t)
     (expand-returns-3 t))
-    λ t. follow-lts.spec (
-      put-reads.Asked,
-      put-reads.Learnt,
-      stop-reads.Asked,
-      stop-reads.Learnt,
-      value-of-reads.Asked,
-      value-of-reads.Learnt,
-      give-reads.Asked,
-      give-reads.Learnt,
-      give-integer-reads.Asked,
-      give-integer-reads.Learnt,
-      none-reads.Asked,
-      none-reads.Learnt,
-      expand-below t,
-      expand.Post,
-      behind-reads.Asked,
-      behind-reads.Learnt,
-    )
-    (follow-at t)
+    λ t. follow-lts.spec (follow-calls t) (follow-at t)
     follow.Post
     (follow-enum-known-referred t)
     (follow-put-requires t)
-    (follow-add-t17 t)
+    (follow-add-t18 t)
     (follow-enum-told t)
     (follow-stop-requires t)
     (follow-enum-told-2 t)

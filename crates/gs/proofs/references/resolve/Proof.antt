@@ -44,8 +44,8 @@ returns : tie.Need-returns
 returns c =
     named _ _ _ _ _ _ _ (c .before .before .before .before .read-unsigned .ensures) (c .before .before .enum-told .given .1) (c .before .refusal-of .ensures) (c .as-name .ensures)
 
-cast-t7 : tie.Need-cast-t7
-cast-t7 c = search needs
+cast-t8 : tie.Need-cast-t8
+cast-t8 c = search needs
 
 valued : (name table : List ℕ) (answer : Reading) (n : Valued) → answer ≡ reading name true 4294967295 → answer ≡ Value n
     → Number (n .value % 256) ≡ referredIn table name
@@ -65,5 +65,5 @@ resolve-spec =
     refusal-of-requires
     as-name-requires
     returns
-    cast-t7
+    cast-t8
     returns-2)
