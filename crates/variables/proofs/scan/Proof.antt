@@ -76,8 +76,9 @@ same-length c = omega arith
 returns : tie.Need-returns Inv-loop μ-loop
 returns c =
     let t = c .before .before in
-    let i = t .before .loop .inv in (
-      c .refused .ensures ∙ full _ _ _ (t .loop-test .taken) (c .before .if1 .taken) ∙ sym (i .4),
+    let i = t .before .loop .inv in
+    let all : t .before .loop .count ≡ most = omega arith in (
+      c .refused .ensures ∙ full _ _ _ (t .loop-test .taken) all ∙ sym (i .4),
       i .5 .laid ∙ laid-to _ _ _ (c .refused .ensures),
     )
 
