@@ -1,6 +1,8 @@
 // One function for each level of precedence. Each reads the operands one level tighter, with its own operators between them from the
-// left; the tightest is the operand, which calls the loosest level back for a bracket.
+// left; the tightest is the operand, which calls the loosest level back for a bracket. The table's index goes along, for the
+// look-ups of names.
 ghost use mathlib.Core.Path.{_≡_};
+ghost use Rattle.variables.specs.Indexes.{indexOf};
 ghost use Rattle.variables.specs.Names.{namesOf};
 ghost use Rattle.expressions.specs.Trees.{binding, levelAt, operandAt};
 ghost use Rattle.expressions.specs.Steps.{partOf, behindPart, closedPartBy, closedPart, endedPartBy, endedPart};
@@ -131,7 +133,15 @@ pub(crate) fn ended(text: &[u8], part: Part) -> Part
 }
 
 // A number, a name, a bracket, or an operator before an operand. `levels` more unary operators and brackets may stand over it.
-fn operand(text: &[u8], table: &[u8], levels: u8, at: usize, account: Account) -> Part
+fn operand(
+    text: &[u8],
+    table: &[u8],
+    index: &[u32],
+    levels: u8,
+    at: usize,
+    account: Account,
+) -> Part
+    requires { ⌜ now index ≡ indexOf (now table) ⌝ }
     ensures { λ r. ⌜ r ≡ partOf (namesOf (now (table .entry))) account (operandAt (now (text .entry)) levels at) ⌝ }
 {
     let first = tokens::token_at(text, at);
@@ -144,7 +154,7 @@ fn operand(text: &[u8], table: &[u8], levels: u8, at: usize, account: Account) -
             fault,
             place: digit,
         },
-        Token::Name => parts::named(&text[place..next], table, place, next, account),
+        Token::Name => parts::named(&text[place..next], table, index, place, next, account),
         Token::Operator(operator) => {
             if !operator.stands_alone() {
                 return bad(place);
@@ -155,7 +165,10 @@ fn operand(text: &[u8], table: &[u8], levels: u8, at: usize, account: Account) -
                     place,
                 };
             }
-            parts::covered(operator, operand(text, table, levels - 1, next, account))
+            parts::covered(
+                operator,
+                operand(text, table, index, levels - 1, next, account),
+            )
         }
         Token::Open => {
             if levels == 0 {
@@ -164,7 +177,10 @@ fn operand(text: &[u8], table: &[u8], levels: u8, at: usize, account: Account) -
                     place,
                 };
             }
-            closed(text, disjunction(text, table, levels - 1, next, account))
+            closed(
+                text,
+                disjunction(text, table, index, levels - 1, next, account),
+            )
         }
         Token::End => bad(place),
         Token::Close => bad(place),
@@ -173,10 +189,11 @@ fn operand(text: &[u8], table: &[u8], levels: u8, at: usize, account: Account) -
 }
 
 // * / MOD
-fn term(text: &[u8], table: &[u8], levels: u8, at: usize, account: Account) -> Part
+fn term(text: &[u8], table: &[u8], index: &[u32], levels: u8, at: usize, account: Account) -> Part
+    requires { ⌜ now index ≡ indexOf (now table) ⌝ }
     ensures { λ r. ⌜ r ≡ partOf (namesOf (now (table .entry))) account (levelAt (now (text .entry)) 1 (operandAt (now (text .entry)) levels) at) ⌝ }
 {
-    let mut left = operand(text, table, levels, at, account);
+    let mut left = operand(text, table, index, levels, at, account);
     loop {
         match operator_behind(text, 1, left) {
             Behind::Other => return left,
@@ -185,7 +202,7 @@ fn term(text: &[u8], table: &[u8], levels: u8, at: usize, account: Account) -> P
                 at: place,
                 next,
             } => {
-                let right = operand(text, table, levels, next, parts::account_of(left));
+                let right = operand(text, table, index, levels, next, parts::account_of(left));
                 left = parts::joined(operator, place, left, right);
             }
         }
@@ -193,10 +210,11 @@ fn term(text: &[u8], table: &[u8], levels: u8, at: usize, account: Account) -> P
 }
 
 // + -
-fn sum(text: &[u8], table: &[u8], levels: u8, at: usize, account: Account) -> Part
+fn sum(text: &[u8], table: &[u8], index: &[u32], levels: u8, at: usize, account: Account) -> Part
+    requires { ⌜ now index ≡ indexOf (now table) ⌝ }
     ensures { λ r. ⌜ r ≡ partOf (namesOf (now (table .entry))) account (levelAt (now (text .entry)) 2 (operandAt (now (text .entry)) levels) at) ⌝ }
 {
-    let mut left = term(text, table, levels, at, account);
+    let mut left = term(text, table, index, levels, at, account);
     loop {
         match operator_behind(text, 2, left) {
             Behind::Other => return left,
@@ -205,7 +223,7 @@ fn sum(text: &[u8], table: &[u8], levels: u8, at: usize, account: Account) -> Pa
                 at: place,
                 next,
             } => {
-                let right = term(text, table, levels, next, parts::account_of(left));
+                let right = term(text, table, index, levels, next, parts::account_of(left));
                 left = parts::joined(operator, place, left, right);
             }
         }
@@ -213,10 +231,18 @@ fn sum(text: &[u8], table: &[u8], levels: u8, at: usize, account: Account) -> Pa
 }
 
 // = <> < > <= >= << >> >>>
-fn relation(text: &[u8], table: &[u8], levels: u8, at: usize, account: Account) -> Part
+fn relation(
+    text: &[u8],
+    table: &[u8],
+    index: &[u32],
+    levels: u8,
+    at: usize,
+    account: Account,
+) -> Part
+    requires { ⌜ now index ≡ indexOf (now table) ⌝ }
     ensures { λ r. ⌜ r ≡ partOf (namesOf (now (table .entry))) account (levelAt (now (text .entry)) 3 (operandAt (now (text .entry)) levels) at) ⌝ }
 {
-    let mut left = sum(text, table, levels, at, account);
+    let mut left = sum(text, table, index, levels, at, account);
     loop {
         match operator_behind(text, 3, left) {
             Behind::Other => return left,
@@ -225,7 +251,7 @@ fn relation(text: &[u8], table: &[u8], levels: u8, at: usize, account: Account) 
                 at: place,
                 next,
             } => {
-                let right = sum(text, table, levels, next, parts::account_of(left));
+                let right = sum(text, table, index, levels, next, parts::account_of(left));
                 left = parts::joined(operator, place, left, right);
             }
         }
@@ -233,10 +259,18 @@ fn relation(text: &[u8], table: &[u8], levels: u8, at: usize, account: Account) 
 }
 
 // AND
-fn conjunction(text: &[u8], table: &[u8], levels: u8, at: usize, account: Account) -> Part
+fn conjunction(
+    text: &[u8],
+    table: &[u8],
+    index: &[u32],
+    levels: u8,
+    at: usize,
+    account: Account,
+) -> Part
+    requires { ⌜ now index ≡ indexOf (now table) ⌝ }
     ensures { λ r. ⌜ r ≡ partOf (namesOf (now (table .entry))) account (levelAt (now (text .entry)) 4 (operandAt (now (text .entry)) levels) at) ⌝ }
 {
-    let mut left = relation(text, table, levels, at, account);
+    let mut left = relation(text, table, index, levels, at, account);
     loop {
         match operator_behind(text, 4, left) {
             Behind::Other => return left,
@@ -245,7 +279,7 @@ fn conjunction(text: &[u8], table: &[u8], levels: u8, at: usize, account: Accoun
                 at: place,
                 next,
             } => {
-                let right = relation(text, table, levels, next, parts::account_of(left));
+                let right = relation(text, table, index, levels, next, parts::account_of(left));
                 left = parts::joined(operator, place, left, right);
             }
         }
@@ -256,13 +290,15 @@ fn conjunction(text: &[u8], table: &[u8], levels: u8, at: usize, account: Accoun
 pub(crate) fn disjunction(
     text: &[u8],
     table: &[u8],
+    index: &[u32],
     levels: u8,
     at: usize,
     account: Account,
 ) -> Part
+    requires { ⌜ now index ≡ indexOf (now table) ⌝ }
     ensures { λ r. ⌜ r ≡ partOf (namesOf (now (table .entry))) account (levelAt (now (text .entry)) 5 (operandAt (now (text .entry)) levels) at) ⌝ }
 {
-    let mut left = conjunction(text, table, levels, at, account);
+    let mut left = conjunction(text, table, index, levels, at, account);
     loop {
         match operator_behind(text, 5, left) {
             Behind::Other => return left,
@@ -271,7 +307,7 @@ pub(crate) fn disjunction(
                 at: place,
                 next,
             } => {
-                let right = conjunction(text, table, levels, next, parts::account_of(left));
+                let right = conjunction(text, table, index, levels, next, parts::account_of(left));
                 left = parts::joined(operator, place, left, right);
             }
         }

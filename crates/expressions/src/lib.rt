@@ -3,6 +3,7 @@ ghost use mathlib.Core.Path.{_≡_};
 ghost use Prim.Native.Nat.{_≤_};
 ghost use lib.ListN.{length};
 ghost use Rattle.paper.specs.Traces.{run};
+ghost use Rattle.variables.specs.Indexes.{indexOf};
 ghost use Rattle.expressions.specs.Answers.{readingOf, valueIn, refusedAt, evaluatedBy, evaluated};
 ghost use Rattle.expressions.specs.Steps.{answerOf};
 
@@ -62,11 +63,12 @@ fn answer_of(part: Part) -> Evaluated
     }
 }
 
-// A text over a good table.
-fn evaluate_over(text: &[u8], table: &[u8], left: u32) -> Evaluated
+// A text over a good table, with the table's index.
+fn evaluate_over(text: &[u8], table: &[u8], index: &[u32], left: u32) -> Evaluated
+    requires { ⌜ now index ≡ indexOf (now table) ⌝ }
     ensures { λ r. ⌜ r ≡ evaluatedBy (run (readingOf (now (text .entry)) (now (table .entry))) left) (valueIn (now (text .entry)) (now (table .entry))) ⌝ }
 {
-    let part = levels::disjunction(text, table, LEVELS, 0, Account::Open(left));
+    let part = levels::disjunction(text, table, index, LEVELS, 0, Account::Open(left));
     answer_of(levels::ended(text, part))
 }
 
@@ -77,8 +79,12 @@ pub fn evaluate(text: &[u8], table: &[u8], allowance: u32) -> Evaluated
     if LONGEST < text.len() {
         return refused(OVER_LENGTH, 0);
     }
-    match variables::check_table(table) {
+    let mut index = [0u32; 256];
+    match variables::index_table(table, &mut index) {
         Checked::Refused { number, at } => Evaluated::BadTable { number, at },
-        Checked::Good(_) => evaluate_over(text, table, paper::allowance::cap(allowance)),
+        Checked::Good(count) => {
+            let left = paper::allowance::cap(allowance);
+            evaluate_over(text, table, &index[0..count], left)
+        }
     }
 }

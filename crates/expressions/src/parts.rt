@@ -5,6 +5,7 @@ ghost use mathlib.Core.Bool.{_&&_};
 ghost use mathlib.Core.List.{List};
 ghost use Prim.Native.Nat.{ℕ};
 ghost use lib.Dec.{eqb};
+ghost use Rattle.variables.specs.Indexes.{indexOf};
 ghost use Rattle.variables.specs.Names.{Meaning, namesOf};
 ghost use Rattle.expressions.specs.Operators.{divides};
 ghost use Rattle.expressions.specs.Trees as Trees;
@@ -19,6 +20,7 @@ use paper::UNKNOWN_NAME;
 use paper::ZERO_DIVISOR;
 use paper::faults::Fault;
 use variables::Found;
+use variables::index::find;
 use variables::integers::pattern_of;
 
 // How the evaluation stands: the look-ups that are left, or the first refusal that it met.
@@ -114,10 +116,11 @@ pub(crate) fn number(value: u32, next: usize, account: Account) -> Part
 }
 
 // A name must be known, and an integer variable; then it spends one look-up.
-fn look_up(name: &[u8], table: &[u8], place: usize, next: usize, left: u32) -> Part
+fn look_up(name: &[u8], table: &[u8], index: &[u32], place: usize, next: usize, left: u32) -> Part
+    requires { ⌜ now index ≡ indexOf (now table) ⌝ }
     ensures { λ r. ⌜ r ≡ partOf (namesOf (now (table .entry))) (Account.Open left) (Trees.tree (Trees.variable (now (name .entry)) place) next) ⌝ }
 {
-    match variables::find(table, name) {
+    match find(table, index, name) {
         Found::Nothing => refused(UNKNOWN_NAME, place, next),
         Found::Unsound { number: _, at: _ } => refused(UNKNOWN_NAME, place, next),
         Found::At(v) => {
@@ -137,11 +140,19 @@ fn look_up(name: &[u8], table: &[u8], place: usize, next: usize, left: u32) -> P
 }
 
 // Behind a refusal no name is looked up any more.
-pub(crate) fn named(name: &[u8], table: &[u8], place: usize, next: usize, account: Account) -> Part
+pub(crate) fn named(
+    name: &[u8],
+    table: &[u8],
+    index: &[u32],
+    place: usize,
+    next: usize,
+    account: Account,
+) -> Part
+    requires { ⌜ now index ≡ indexOf (now table) ⌝ }
     ensures { λ r. ⌜ r ≡ partOf (namesOf (now (table .entry))) account (Trees.tree (Trees.variable (now (name .entry)) place) next) ⌝ }
 {
     match account {
-        Account::Open(left) => look_up(name, table, place, next, left),
+        Account::Open(left) => look_up(name, table, index, place, next, left),
         Account::Shut {
             number,
             place: first,

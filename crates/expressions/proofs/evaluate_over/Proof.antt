@@ -35,7 +35,7 @@ answer-of-requires : tie.Need-answer-of-requires
 answer-of-requires c κs = search needs
 
 returns : tie.Need-returns
-returns c = evaluated-whole (c .before .before .before .before .before .args .text .now) (c .before .before .before .before .before .args .table .now) (c .before .before .before .before .before .args .left) _ _ _ (c .before .before .disjunction .ensures) (c .before .ended .ensures) (c .answer-of .ensures)
+returns c = evaluated-whole (c .before .before .before .before .before .before .args .text .now) (c .before .before .before .before .before .before .args .table .now) (c .before .before .before .before .before .before .args .left) _ _ _ (c .before .before .disjunction .ensures) (c .before .ended .ensures) (c .answer-of .ensures)
 
 pub evaluate-over-spec : {M : Type 1} → statement M
 evaluate-over-spec =

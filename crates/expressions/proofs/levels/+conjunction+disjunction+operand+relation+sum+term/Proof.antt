@@ -46,59 +46,59 @@ use Rattle.expressions.proofs.tokens.token_at.Reads as token-at-reads
 use Rattle.expressions.proofs.levels.+conjunction+disjunction+operand+relation+sum+term.{statement}
 use Rattle.expressions.proofs.levels.+conjunction+disjunction+operand+relation+sum+term.Tie.{close}
 
-abbrev μ-operand : Measures 2 operand-kinds.ps ℕ
-μ-operand κs a = 8 * a .1 .1 .0
+abbrev μ-operand : Measures 3 operand-kinds.ps ℕ
+μ-operand κs a = 8 * a .1 .1 .1 .0
 
-abbrev μ-term : Measures 2 term-kinds.ps ℕ
-μ-term κs a = 8 * a .1 .1 .0 + 1
+abbrev μ-term : Measures 3 term-kinds.ps ℕ
+μ-term κs a = 8 * a .1 .1 .1 .0 + 1
 
-abbrev μ-sum : Measures 2 sum-kinds.ps ℕ
-μ-sum κs a = 8 * a .1 .1 .0 + 2
+abbrev μ-sum : Measures 3 sum-kinds.ps ℕ
+μ-sum κs a = 8 * a .1 .1 .1 .0 + 2
 
-abbrev μ-relation : Measures 2 relation-kinds.ps ℕ
-μ-relation κs a = 8 * a .1 .1 .0 + 3
+abbrev μ-relation : Measures 3 relation-kinds.ps ℕ
+μ-relation κs a = 8 * a .1 .1 .1 .0 + 3
 
-abbrev μ-conjunction : Measures 2 conjunction-kinds.ps ℕ
-μ-conjunction κs a = 8 * a .1 .1 .0 + 4
+abbrev μ-conjunction : Measures 3 conjunction-kinds.ps ℕ
+μ-conjunction κs a = 8 * a .1 .1 .1 .0 + 4
 
-abbrev μ-disjunction : Measures 2 disjunction-kinds.ps ℕ
-μ-disjunction κs a = 8 * a .1 .1 .0 + 5
+abbrev μ-disjunction : Measures 3 disjunction-kinds.ps ℕ
+μ-disjunction κs a = 8 * a .1 .1 .1 .0 + 5
 
-abbrev operand-at : ℕ → In 2 operand-kinds.ps
-operand-at t = and 2 operand-kinds.ps (is 2 operand-kinds.ps μ-operand t) operand.Pre
+abbrev operand-at : ℕ → In 3 operand-kinds.ps
+operand-at t = and 3 operand-kinds.ps (is 3 operand-kinds.ps μ-operand t) operand.Pre
 
-abbrev operand-below : ℕ → In 2 operand-kinds.ps
-operand-below t = and 2 operand-kinds.ps (falls 2 operand-kinds.ps _<_ μ-operand t) operand.Pre
+abbrev operand-below : ℕ → In 3 operand-kinds.ps
+operand-below t = and 3 operand-kinds.ps (falls 3 operand-kinds.ps _<_ μ-operand t) operand.Pre
 
-abbrev term-at : ℕ → In 2 term-kinds.ps
-term-at t = and 2 term-kinds.ps (is 2 term-kinds.ps μ-term t) term.Pre
+abbrev term-at : ℕ → In 3 term-kinds.ps
+term-at t = and 3 term-kinds.ps (is 3 term-kinds.ps μ-term t) term.Pre
 
-abbrev term-below : ℕ → In 2 term-kinds.ps
-term-below t = and 2 term-kinds.ps (falls 2 term-kinds.ps _<_ μ-term t) term.Pre
+abbrev term-below : ℕ → In 3 term-kinds.ps
+term-below t = and 3 term-kinds.ps (falls 3 term-kinds.ps _<_ μ-term t) term.Pre
 
-abbrev sum-at : ℕ → In 2 sum-kinds.ps
-sum-at t = and 2 sum-kinds.ps (is 2 sum-kinds.ps μ-sum t) sum.Pre
+abbrev sum-at : ℕ → In 3 sum-kinds.ps
+sum-at t = and 3 sum-kinds.ps (is 3 sum-kinds.ps μ-sum t) sum.Pre
 
-abbrev sum-below : ℕ → In 2 sum-kinds.ps
-sum-below t = and 2 sum-kinds.ps (falls 2 sum-kinds.ps _<_ μ-sum t) sum.Pre
+abbrev sum-below : ℕ → In 3 sum-kinds.ps
+sum-below t = and 3 sum-kinds.ps (falls 3 sum-kinds.ps _<_ μ-sum t) sum.Pre
 
-abbrev relation-at : ℕ → In 2 relation-kinds.ps
-relation-at t = and 2 relation-kinds.ps (is 2 relation-kinds.ps μ-relation t) relation.Pre
+abbrev relation-at : ℕ → In 3 relation-kinds.ps
+relation-at t = and 3 relation-kinds.ps (is 3 relation-kinds.ps μ-relation t) relation.Pre
 
-abbrev relation-below : ℕ → In 2 relation-kinds.ps
-relation-below t = and 2 relation-kinds.ps (falls 2 relation-kinds.ps _<_ μ-relation t) relation.Pre
+abbrev relation-below : ℕ → In 3 relation-kinds.ps
+relation-below t = and 3 relation-kinds.ps (falls 3 relation-kinds.ps _<_ μ-relation t) relation.Pre
 
-abbrev conjunction-at : ℕ → In 2 conjunction-kinds.ps
-conjunction-at t = and 2 conjunction-kinds.ps (is 2 conjunction-kinds.ps μ-conjunction t) conjunction.Pre
+abbrev conjunction-at : ℕ → In 3 conjunction-kinds.ps
+conjunction-at t = and 3 conjunction-kinds.ps (is 3 conjunction-kinds.ps μ-conjunction t) conjunction.Pre
 
-abbrev conjunction-below : ℕ → In 2 conjunction-kinds.ps
-conjunction-below t = and 2 conjunction-kinds.ps (falls 2 conjunction-kinds.ps _<_ μ-conjunction t) conjunction.Pre
+abbrev conjunction-below : ℕ → In 3 conjunction-kinds.ps
+conjunction-below t = and 3 conjunction-kinds.ps (falls 3 conjunction-kinds.ps _<_ μ-conjunction t) conjunction.Pre
 
-abbrev disjunction-at : ℕ → In 2 disjunction-kinds.ps
-disjunction-at t = and 2 disjunction-kinds.ps (is 2 disjunction-kinds.ps μ-disjunction t) disjunction.Pre
+abbrev disjunction-at : ℕ → In 3 disjunction-kinds.ps
+disjunction-at t = and 3 disjunction-kinds.ps (is 3 disjunction-kinds.ps μ-disjunction t) disjunction.Pre
 
-abbrev disjunction-below : ℕ → In 2 disjunction-kinds.ps
-disjunction-below t = and 2 disjunction-kinds.ps (falls 2 disjunction-kinds.ps _<_ μ-disjunction t) disjunction.Pre
+abbrev disjunction-below : ℕ → In 3 disjunction-kinds.ps
+disjunction-below t = and 3 disjunction-kinds.ps (falls 3 disjunction-kinds.ps _<_ μ-disjunction t) disjunction.Pre
 
 -- what the functions that a level calls ask and tell
 abbrev term-calls : ℕ → term-lts.Claims
@@ -163,14 +163,14 @@ disjunction-calls t = (
 
 -- A level: its invariant is the part so far as a tree from which the level goes on, whatever the account was at its start
 abbrev term-Inv-loop : term-lts.InvT-loop
-term-Inv-loop text table levels at left₀ left =
+term-Inv-loop text table index levels at left₀ left =
     (account : Account) → left₀ ≡ partOf (namesOf table) account (levelAt text 0 (operandAt text levels) at) → Chain (namesOf table) text 0 levels account at left
 
 abbrev term-μ-loop : term-lts.MeasureT-loop
-term-μ-loop text table levels at left₀ left = remaining (length text) left
+term-μ-loop text table index levels at left₀ left = remaining (length text) left
 
 term-operand-requires : (t : ℕ) → term-lts.Need-operand-requires (term-calls t) (term-at t) term.Post term-Inv-loop term-μ-loop
-term-operand-requires t c κs = (omega (arith, c .before .before .pre .0), tt)
+term-operand-requires t c κs = (omega (arith, c .before .before .before .pre .0), c .before .before .before .pre .1)
 
 term-loop-holds : (t : ℕ) → term-lts.Need-loop-holds (term-calls t) (term-at t) term.Post term-Inv-loop term-μ-loop
 term-loop-holds t c = λ account e. begins _ _ _ _ account _ _ e
@@ -183,7 +183,7 @@ term-enum-told t c = search needs
 
 term-returns : (t : ℕ) → term-lts.Need-returns (term-calls t) (term-at t) term.Post term-Inv-loop term-μ-loop
 term-returns t c =
-    let a = c .before .before .before .before .before .before .before .args in
+    let a = c .before .before .before .before .before .before .before .before .args in
     ends (namesOf (a .table .now)) (a .text .now) 0 (a .levels) (a .account) (a .at) _ (c .before .before .before .loop .inv (a .account) (c .before .before .before .before .operand .ensures))
     (sym (c .before .before .operator-behind .ensures) ∙ c .enum-told .given .1)
 
@@ -194,34 +194,34 @@ term-account-of-requires : (t : ℕ) → term-lts.Need-account-of-requires (term
 term-account-of-requires t c κs = search needs
 
 term-operand-requires-2 : (t : ℕ) → term-lts.Need-operand-requires-2 (term-calls t) (term-at t) term.Post term-Inv-loop term-μ-loop
-term-operand-requires-2 t c κs = (omega (arith, c .before .before .before .before .before .before .before .before .before .pre .0), tt)
+term-operand-requires-2 t c κs = (omega (arith, c .before .before .before .before .before .before .before .before .before .before .pre .0), c .before .before .before .before .before .before .before .before .before .before .pre .1)
 
 term-joined-requires : (t : ℕ) → term-lts.Need-joined-requires (term-calls t) (term-at t) term.Post term-Inv-loop term-μ-loop
 term-joined-requires t c κs = search needs
 
 term-loop-less : (t : ℕ) → term-lts.Need-loop-less (term-calls t) (term-at t) term.Post term-Inv-loop term-μ-loop
 term-loop-less t c =
-    let a = c .before .before .before .before .before .before .before .before .before .before .before .args in
+    let a = c .before .before .before .before .before .before .before .before .before .before .before .before .args in
     falls-behind (namesOf (a .table .now)) (a .text .now) 0 (a .levels) (c .before .before .before .before .operator .given .0 .0) (c .before .before .before .before .operator .given .0 .1 .0) (c .before .before .before .before .operator .given .0 .1 .1 .0) _ (c .before .before .before .before .before .before .before .loop .left) _ _
     (sym (c .before .before .before .before .before .before .operator-behind .ensures) ∙ c .before .before .before .before .operator .given .1)
     (c .before .operand2 .ensures) (c .joined .ensures)
 
 term-loop-again : (t : ℕ) → term-lts.Need-loop-again (term-calls t) (term-at t) term.Post term-Inv-loop term-μ-loop
 term-loop-again t c =
-    let a = c .before .before .before .before .before .before .before .before .before .before .before .args in
+    let a = c .before .before .before .before .before .before .before .before .before .before .before .before .args in
     λ account e. goes-on (namesOf (a .table .now)) (a .text .now) 0 (a .levels) account (a .at) (c .before .before .before .before .operator .given .0 .0) (c .before .before .before .before .operator .given .0 .1 .0) (c .before .before .before .before .operator .given .0 .1 .1 .0) (c .before .before .before .before .before .before .before .loop .left) _ _ (c .before .before .before .before .before .before .before .loop .inv account e)
     (sym (c .before .before .before .before .before .before .operator-behind .ensures) ∙ c .before .before .before .before .operator .given .1)
     (c .before .operand2 .ensures ∙ ap (λ x. partOf (namesOf (a .table .now)) x (levelAt (a .text .now) 0 (operandAt (a .text .now) (a .levels)) (c .before .before .before .before .operator .given .0 .1 .1 .0))) (c .before .before .account-of .ensures)) (c .joined .ensures)
 
 abbrev sum-Inv-loop : sum-lts.InvT-loop
-sum-Inv-loop text table levels at left₀ left =
+sum-Inv-loop text table index levels at left₀ left =
     (account : Account) → left₀ ≡ partOf (namesOf table) account (levelAt text 1 (operandAt text levels) at) → Chain (namesOf table) text 1 levels account at left
 
 abbrev sum-μ-loop : sum-lts.MeasureT-loop
-sum-μ-loop text table levels at left₀ left = remaining (length text) left
+sum-μ-loop text table index levels at left₀ left = remaining (length text) left
 
 sum-term-requires : (t : ℕ) → sum-lts.Need-term-requires (sum-calls t) (sum-at t) sum.Post sum-Inv-loop sum-μ-loop
-sum-term-requires t c κs = (omega (arith, c .before .before .pre .0), tt)
+sum-term-requires t c κs = (omega (arith, c .before .before .before .pre .0), c .before .before .before .pre .1)
 
 sum-loop-holds : (t : ℕ) → sum-lts.Need-loop-holds (sum-calls t) (sum-at t) sum.Post sum-Inv-loop sum-μ-loop
 sum-loop-holds t c = λ account e. begins _ _ _ _ account _ _ e
@@ -234,7 +234,7 @@ sum-enum-told t c = search needs
 
 sum-returns : (t : ℕ) → sum-lts.Need-returns (sum-calls t) (sum-at t) sum.Post sum-Inv-loop sum-μ-loop
 sum-returns t c =
-    let a = c .before .before .before .before .before .before .before .args in
+    let a = c .before .before .before .before .before .before .before .before .args in
     ends (namesOf (a .table .now)) (a .text .now) 1 (a .levels) (a .account) (a .at) _ (c .before .before .before .loop .inv (a .account) (c .before .before .before .before .term .ensures))
     (sym (c .before .before .operator-behind .ensures) ∙ c .enum-told .given .1)
 
@@ -245,34 +245,34 @@ sum-account-of-requires : (t : ℕ) → sum-lts.Need-account-of-requires (sum-ca
 sum-account-of-requires t c κs = search needs
 
 sum-term-requires-2 : (t : ℕ) → sum-lts.Need-term-requires-2 (sum-calls t) (sum-at t) sum.Post sum-Inv-loop sum-μ-loop
-sum-term-requires-2 t c κs = (omega (arith, c .before .before .before .before .before .before .before .before .before .pre .0), tt)
+sum-term-requires-2 t c κs = (omega (arith, c .before .before .before .before .before .before .before .before .before .before .pre .0), c .before .before .before .before .before .before .before .before .before .before .pre .1)
 
 sum-joined-requires : (t : ℕ) → sum-lts.Need-joined-requires (sum-calls t) (sum-at t) sum.Post sum-Inv-loop sum-μ-loop
 sum-joined-requires t c κs = search needs
 
 sum-loop-less : (t : ℕ) → sum-lts.Need-loop-less (sum-calls t) (sum-at t) sum.Post sum-Inv-loop sum-μ-loop
 sum-loop-less t c =
-    let a = c .before .before .before .before .before .before .before .before .before .before .before .args in
+    let a = c .before .before .before .before .before .before .before .before .before .before .before .before .args in
     falls-behind (namesOf (a .table .now)) (a .text .now) 1 (a .levels) (c .before .before .before .before .operator .given .0 .0) (c .before .before .before .before .operator .given .0 .1 .0) (c .before .before .before .before .operator .given .0 .1 .1 .0) _ (c .before .before .before .before .before .before .before .loop .left) _ _
     (sym (c .before .before .before .before .before .before .operator-behind .ensures) ∙ c .before .before .before .before .operator .given .1)
     (c .before .term2 .ensures) (c .joined .ensures)
 
 sum-loop-again : (t : ℕ) → sum-lts.Need-loop-again (sum-calls t) (sum-at t) sum.Post sum-Inv-loop sum-μ-loop
 sum-loop-again t c =
-    let a = c .before .before .before .before .before .before .before .before .before .before .before .args in
+    let a = c .before .before .before .before .before .before .before .before .before .before .before .before .args in
     λ account e. goes-on (namesOf (a .table .now)) (a .text .now) 1 (a .levels) account (a .at) (c .before .before .before .before .operator .given .0 .0) (c .before .before .before .before .operator .given .0 .1 .0) (c .before .before .before .before .operator .given .0 .1 .1 .0) (c .before .before .before .before .before .before .before .loop .left) _ _ (c .before .before .before .before .before .before .before .loop .inv account e)
     (sym (c .before .before .before .before .before .before .operator-behind .ensures) ∙ c .before .before .before .before .operator .given .1)
     (c .before .term2 .ensures ∙ ap (λ x. partOf (namesOf (a .table .now)) x (levelAt (a .text .now) 1 (operandAt (a .text .now) (a .levels)) (c .before .before .before .before .operator .given .0 .1 .1 .0))) (c .before .before .account-of .ensures)) (c .joined .ensures)
 
 abbrev relation-Inv-loop : relation-lts.InvT-loop
-relation-Inv-loop text table levels at left₀ left =
+relation-Inv-loop text table index levels at left₀ left =
     (account : Account) → left₀ ≡ partOf (namesOf table) account (levelAt text 2 (operandAt text levels) at) → Chain (namesOf table) text 2 levels account at left
 
 abbrev relation-μ-loop : relation-lts.MeasureT-loop
-relation-μ-loop text table levels at left₀ left = remaining (length text) left
+relation-μ-loop text table index levels at left₀ left = remaining (length text) left
 
 relation-sum-requires : (t : ℕ) → relation-lts.Need-sum-requires (relation-calls t) (relation-at t) relation.Post relation-Inv-loop relation-μ-loop
-relation-sum-requires t c κs = (omega (arith, c .before .before .pre .0), tt)
+relation-sum-requires t c κs = (omega (arith, c .before .before .before .pre .0), c .before .before .before .pre .1)
 
 relation-loop-holds : (t : ℕ) → relation-lts.Need-loop-holds (relation-calls t) (relation-at t) relation.Post relation-Inv-loop relation-μ-loop
 relation-loop-holds t c = λ account e. begins _ _ _ _ account _ _ e
@@ -285,7 +285,7 @@ relation-enum-told t c = search needs
 
 relation-returns : (t : ℕ) → relation-lts.Need-returns (relation-calls t) (relation-at t) relation.Post relation-Inv-loop relation-μ-loop
 relation-returns t c =
-    let a = c .before .before .before .before .before .before .before .args in
+    let a = c .before .before .before .before .before .before .before .before .args in
     ends (namesOf (a .table .now)) (a .text .now) 2 (a .levels) (a .account) (a .at) _ (c .before .before .before .loop .inv (a .account) (c .before .before .before .before .sum .ensures))
     (sym (c .before .before .operator-behind .ensures) ∙ c .enum-told .given .1)
 
@@ -296,34 +296,34 @@ relation-account-of-requires : (t : ℕ) → relation-lts.Need-account-of-requir
 relation-account-of-requires t c κs = search needs
 
 relation-sum-requires-2 : (t : ℕ) → relation-lts.Need-sum-requires-2 (relation-calls t) (relation-at t) relation.Post relation-Inv-loop relation-μ-loop
-relation-sum-requires-2 t c κs = (omega (arith, c .before .before .before .before .before .before .before .before .before .pre .0), tt)
+relation-sum-requires-2 t c κs = (omega (arith, c .before .before .before .before .before .before .before .before .before .before .pre .0), c .before .before .before .before .before .before .before .before .before .before .pre .1)
 
 relation-joined-requires : (t : ℕ) → relation-lts.Need-joined-requires (relation-calls t) (relation-at t) relation.Post relation-Inv-loop relation-μ-loop
 relation-joined-requires t c κs = search needs
 
 relation-loop-less : (t : ℕ) → relation-lts.Need-loop-less (relation-calls t) (relation-at t) relation.Post relation-Inv-loop relation-μ-loop
 relation-loop-less t c =
-    let a = c .before .before .before .before .before .before .before .before .before .before .before .args in
+    let a = c .before .before .before .before .before .before .before .before .before .before .before .before .args in
     falls-behind (namesOf (a .table .now)) (a .text .now) 2 (a .levels) (c .before .before .before .before .operator .given .0 .0) (c .before .before .before .before .operator .given .0 .1 .0) (c .before .before .before .before .operator .given .0 .1 .1 .0) _ (c .before .before .before .before .before .before .before .loop .left) _ _
     (sym (c .before .before .before .before .before .before .operator-behind .ensures) ∙ c .before .before .before .before .operator .given .1)
     (c .before .sum2 .ensures) (c .joined .ensures)
 
 relation-loop-again : (t : ℕ) → relation-lts.Need-loop-again (relation-calls t) (relation-at t) relation.Post relation-Inv-loop relation-μ-loop
 relation-loop-again t c =
-    let a = c .before .before .before .before .before .before .before .before .before .before .before .args in
+    let a = c .before .before .before .before .before .before .before .before .before .before .before .before .args in
     λ account e. goes-on (namesOf (a .table .now)) (a .text .now) 2 (a .levels) account (a .at) (c .before .before .before .before .operator .given .0 .0) (c .before .before .before .before .operator .given .0 .1 .0) (c .before .before .before .before .operator .given .0 .1 .1 .0) (c .before .before .before .before .before .before .before .loop .left) _ _ (c .before .before .before .before .before .before .before .loop .inv account e)
     (sym (c .before .before .before .before .before .before .operator-behind .ensures) ∙ c .before .before .before .before .operator .given .1)
     (c .before .sum2 .ensures ∙ ap (λ x. partOf (namesOf (a .table .now)) x (levelAt (a .text .now) 2 (operandAt (a .text .now) (a .levels)) (c .before .before .before .before .operator .given .0 .1 .1 .0))) (c .before .before .account-of .ensures)) (c .joined .ensures)
 
 abbrev conjunction-Inv-loop : conjunction-lts.InvT-loop
-conjunction-Inv-loop text table levels at left₀ left =
+conjunction-Inv-loop text table index levels at left₀ left =
     (account : Account) → left₀ ≡ partOf (namesOf table) account (levelAt text 3 (operandAt text levels) at) → Chain (namesOf table) text 3 levels account at left
 
 abbrev conjunction-μ-loop : conjunction-lts.MeasureT-loop
-conjunction-μ-loop text table levels at left₀ left = remaining (length text) left
+conjunction-μ-loop text table index levels at left₀ left = remaining (length text) left
 
 conjunction-relation-requires : (t : ℕ) → conjunction-lts.Need-relation-requires (conjunction-calls t) (conjunction-at t) conjunction.Post conjunction-Inv-loop conjunction-μ-loop
-conjunction-relation-requires t c κs = (omega (arith, c .before .before .pre .0), tt)
+conjunction-relation-requires t c κs = (omega (arith, c .before .before .before .pre .0), c .before .before .before .pre .1)
 
 conjunction-loop-holds : (t : ℕ) → conjunction-lts.Need-loop-holds (conjunction-calls t) (conjunction-at t) conjunction.Post conjunction-Inv-loop conjunction-μ-loop
 conjunction-loop-holds t c = λ account e. begins _ _ _ _ account _ _ e
@@ -336,7 +336,7 @@ conjunction-enum-told t c = search needs
 
 conjunction-returns : (t : ℕ) → conjunction-lts.Need-returns (conjunction-calls t) (conjunction-at t) conjunction.Post conjunction-Inv-loop conjunction-μ-loop
 conjunction-returns t c =
-    let a = c .before .before .before .before .before .before .before .args in
+    let a = c .before .before .before .before .before .before .before .before .args in
     ends (namesOf (a .table .now)) (a .text .now) 3 (a .levels) (a .account) (a .at) _ (c .before .before .before .loop .inv (a .account) (c .before .before .before .before .relation .ensures))
     (sym (c .before .before .operator-behind .ensures) ∙ c .enum-told .given .1)
 
@@ -347,34 +347,34 @@ conjunction-account-of-requires : (t : ℕ) → conjunction-lts.Need-account-of-
 conjunction-account-of-requires t c κs = search needs
 
 conjunction-relation-requires-2 : (t : ℕ) → conjunction-lts.Need-relation-requires-2 (conjunction-calls t) (conjunction-at t) conjunction.Post conjunction-Inv-loop conjunction-μ-loop
-conjunction-relation-requires-2 t c κs = (omega (arith, c .before .before .before .before .before .before .before .before .before .pre .0), tt)
+conjunction-relation-requires-2 t c κs = (omega (arith, c .before .before .before .before .before .before .before .before .before .before .pre .0), c .before .before .before .before .before .before .before .before .before .before .pre .1)
 
 conjunction-joined-requires : (t : ℕ) → conjunction-lts.Need-joined-requires (conjunction-calls t) (conjunction-at t) conjunction.Post conjunction-Inv-loop conjunction-μ-loop
 conjunction-joined-requires t c κs = search needs
 
 conjunction-loop-less : (t : ℕ) → conjunction-lts.Need-loop-less (conjunction-calls t) (conjunction-at t) conjunction.Post conjunction-Inv-loop conjunction-μ-loop
 conjunction-loop-less t c =
-    let a = c .before .before .before .before .before .before .before .before .before .before .before .args in
+    let a = c .before .before .before .before .before .before .before .before .before .before .before .before .args in
     falls-behind (namesOf (a .table .now)) (a .text .now) 3 (a .levels) (c .before .before .before .before .operator .given .0 .0) (c .before .before .before .before .operator .given .0 .1 .0) (c .before .before .before .before .operator .given .0 .1 .1 .0) _ (c .before .before .before .before .before .before .before .loop .left) _ _
     (sym (c .before .before .before .before .before .before .operator-behind .ensures) ∙ c .before .before .before .before .operator .given .1)
     (c .before .relation2 .ensures) (c .joined .ensures)
 
 conjunction-loop-again : (t : ℕ) → conjunction-lts.Need-loop-again (conjunction-calls t) (conjunction-at t) conjunction.Post conjunction-Inv-loop conjunction-μ-loop
 conjunction-loop-again t c =
-    let a = c .before .before .before .before .before .before .before .before .before .before .before .args in
+    let a = c .before .before .before .before .before .before .before .before .before .before .before .before .args in
     λ account e. goes-on (namesOf (a .table .now)) (a .text .now) 3 (a .levels) account (a .at) (c .before .before .before .before .operator .given .0 .0) (c .before .before .before .before .operator .given .0 .1 .0) (c .before .before .before .before .operator .given .0 .1 .1 .0) (c .before .before .before .before .before .before .before .loop .left) _ _ (c .before .before .before .before .before .before .before .loop .inv account e)
     (sym (c .before .before .before .before .before .before .operator-behind .ensures) ∙ c .before .before .before .before .operator .given .1)
     (c .before .relation2 .ensures ∙ ap (λ x. partOf (namesOf (a .table .now)) x (levelAt (a .text .now) 3 (operandAt (a .text .now) (a .levels)) (c .before .before .before .before .operator .given .0 .1 .1 .0))) (c .before .before .account-of .ensures)) (c .joined .ensures)
 
 abbrev disjunction-Inv-loop : disjunction-lts.InvT-loop
-disjunction-Inv-loop text table levels at left₀ left =
+disjunction-Inv-loop text table index levels at left₀ left =
     (account : Account) → left₀ ≡ partOf (namesOf table) account (levelAt text 4 (operandAt text levels) at) → Chain (namesOf table) text 4 levels account at left
 
 abbrev disjunction-μ-loop : disjunction-lts.MeasureT-loop
-disjunction-μ-loop text table levels at left₀ left = remaining (length text) left
+disjunction-μ-loop text table index levels at left₀ left = remaining (length text) left
 
 disjunction-conjunction-requires : (t : ℕ) → disjunction-lts.Need-conjunction-requires (disjunction-calls t) (disjunction-at t) disjunction.Post disjunction-Inv-loop disjunction-μ-loop
-disjunction-conjunction-requires t c κs = (omega (arith, c .before .before .pre .0), tt)
+disjunction-conjunction-requires t c κs = (omega (arith, c .before .before .before .pre .0), c .before .before .before .pre .1)
 
 disjunction-loop-holds : (t : ℕ) → disjunction-lts.Need-loop-holds (disjunction-calls t) (disjunction-at t) disjunction.Post disjunction-Inv-loop disjunction-μ-loop
 disjunction-loop-holds t c = λ account e. begins _ _ _ _ account _ _ e
@@ -387,7 +387,7 @@ disjunction-enum-told t c = search needs
 
 disjunction-returns : (t : ℕ) → disjunction-lts.Need-returns (disjunction-calls t) (disjunction-at t) disjunction.Post disjunction-Inv-loop disjunction-μ-loop
 disjunction-returns t c =
-    let a = c .before .before .before .before .before .before .before .args in
+    let a = c .before .before .before .before .before .before .before .before .args in
     ends (namesOf (a .table .now)) (a .text .now) 4 (a .levels) (a .account) (a .at) _ (c .before .before .before .loop .inv (a .account) (c .before .before .before .before .conjunction .ensures))
     (sym (c .before .before .operator-behind .ensures) ∙ c .enum-told .given .1)
 
@@ -398,21 +398,21 @@ disjunction-account-of-requires : (t : ℕ) → disjunction-lts.Need-account-of-
 disjunction-account-of-requires t c κs = search needs
 
 disjunction-conjunction-requires-2 : (t : ℕ) → disjunction-lts.Need-conjunction-requires-2 (disjunction-calls t) (disjunction-at t) disjunction.Post disjunction-Inv-loop disjunction-μ-loop
-disjunction-conjunction-requires-2 t c κs = (omega (arith, c .before .before .before .before .before .before .before .before .before .pre .0), tt)
+disjunction-conjunction-requires-2 t c κs = (omega (arith, c .before .before .before .before .before .before .before .before .before .before .pre .0), c .before .before .before .before .before .before .before .before .before .before .pre .1)
 
 disjunction-joined-requires : (t : ℕ) → disjunction-lts.Need-joined-requires (disjunction-calls t) (disjunction-at t) disjunction.Post disjunction-Inv-loop disjunction-μ-loop
 disjunction-joined-requires t c κs = search needs
 
 disjunction-loop-less : (t : ℕ) → disjunction-lts.Need-loop-less (disjunction-calls t) (disjunction-at t) disjunction.Post disjunction-Inv-loop disjunction-μ-loop
 disjunction-loop-less t c =
-    let a = c .before .before .before .before .before .before .before .before .before .before .before .args in
+    let a = c .before .before .before .before .before .before .before .before .before .before .before .before .args in
     falls-behind (namesOf (a .table .now)) (a .text .now) 4 (a .levels) (c .before .before .before .before .operator .given .0 .0) (c .before .before .before .before .operator .given .0 .1 .0) (c .before .before .before .before .operator .given .0 .1 .1 .0) _ (c .before .before .before .before .before .before .before .loop .left) _ _
     (sym (c .before .before .before .before .before .before .operator-behind .ensures) ∙ c .before .before .before .before .operator .given .1)
     (c .before .conjunction2 .ensures) (c .joined .ensures)
 
 disjunction-loop-again : (t : ℕ) → disjunction-lts.Need-loop-again (disjunction-calls t) (disjunction-at t) disjunction.Post disjunction-Inv-loop disjunction-μ-loop
 disjunction-loop-again t c =
-    let a = c .before .before .before .before .before .before .before .before .before .before .before .args in
+    let a = c .before .before .before .before .before .before .before .before .before .before .before .before .args in
     λ account e. goes-on (namesOf (a .table .now)) (a .text .now) 4 (a .levels) account (a .at) (c .before .before .before .before .operator .given .0 .0) (c .before .before .before .before .operator .given .0 .1 .0) (c .before .before .before .before .operator .given .0 .1 .1 .0) (c .before .before .before .before .before .before .before .loop .left) _ _ (c .before .before .before .before .before .before .before .loop .inv account e)
     (sym (c .before .before .before .before .before .before .operator-behind .ensures) ∙ c .before .before .before .before .operator .given .1)
     (c .before .conjunction2 .ensures ∙ ap (λ x. partOf (namesOf (a .table .now)) x (levelAt (a .text .now) 4 (operandAt (a .text .now) (a .levels)) (c .before .before .before .before .operator .given .0 .1 .1 .0))) (c .before .before .account-of .ensures)) (c .joined .ensures)
@@ -456,19 +456,19 @@ operand-enum-told t c = search needs
 
 operand-sub-named : (t : ℕ) → operand-lts.Need-sub-named (operand-calls t) (operand-at t) operand.Post
 operand-sub-named t c =
-    let a = c .before .before .before .before .before .args in
+    let a = c .before .before .before .before .before .before .args in
     let s = name-stands (namesOf (a .table .now)) (a .text .now) (a .account) (a .levels) (a .at) _ (c .before .before .token-at .ensures) (c .enum-told .given .1) in
     omega (arith, s .forward, s .within)
 
 operand-part-named-start : (t : ℕ) → operand-lts.Need-part-named-start (operand-calls t) (operand-at t) operand.Post
 operand-part-named-start t c =
-    let a = c .before .before .before .before .before .args in
+    let a = c .before .before .before .before .before .before .args in
     let s = name-stands (namesOf (a .table .now)) (a .text .now) (a .account) (a .levels) (a .at) _ (c .before .before .token-at .ensures) (c .enum-told .given .1) in
     omega (arith, s .forward, s .within)
 
 operand-part-named-end : (t : ℕ) → operand-lts.Need-part-named-end (operand-calls t) (operand-at t) operand.Post
 operand-part-named-end t c =
-    let a = c .before .before .before .before .before .args in
+    let a = c .before .before .before .before .before .before .args in
     let s = name-stands (namesOf (a .table .now)) (a .text .now) (a .account) (a .levels) (a .at) _ (c .before .before .token-at .ensures) (c .enum-told .given .1) in
     omega (arith, s .forward, s .within)
 
@@ -486,13 +486,13 @@ operand-bad-requires t c κs = search needs
 
 operand-returns : (t : ℕ) → operand-lts.Need-returns (operand-calls t) (operand-at t) operand.Post
 operand-returns t c =
-    let a = c .before .before .before .before .before .before .before .before .before .args in
+    let a = c .before .before .before .before .before .before .before .before .before .before .args in
     misplaced (namesOf (a .table .now)) (a .text .now) (a .account) (a .levels) (a .at) _ (c .before .before .before .before .before .before .token-at .ensures)
     _ (c .before .before .before .before .token3 .given .1) _ (ap not (sym (c .before .before .stands-alone .ensures)) ∙ c .before .if1 .taken) (c .bad .ensures)
 
 operand-returns-2 : (t : ℕ) → operand-lts.Need-returns-2 (operand-calls t) (operand-at t) operand.Post
 operand-returns-2 t c =
-    let a = c .before .before .before .before .before .before .before .before .before .args in
+    let a = c .before .before .before .before .before .before .before .before .before .before .args in
     operator-too-deep (namesOf (a .table .now)) (a .text .now) (a .account) (a .levels) (a .at) _ (c .before .before .before .before .before .before .token-at .ensures)
     _ (c .before .before .before .before .token3 .given .1) (ap not (sym (c .before .before .stands-alone .ensures)) ∙ c .before .if1 .left) (c .if2 .taken)
 
@@ -500,7 +500,7 @@ operand-sub-operand : (t : ℕ) → operand-lts.Need-sub-operand (operand-calls 
 operand-sub-operand t c = search needs
 
 operand-operand-requires : (t : ℕ) → operand-lts.Need-operand-requires (operand-calls t) (operand-at t) operand.Post
-operand-operand-requires t c κs = (omega (arith, c .before .before .before .before .before .before .before .before .before .pre .0, c .if2 .left), tt)
+operand-operand-requires t c κs = (omega (arith, c .before .before .before .before .before .before .before .before .before .before .pre .0, c .if2 .left), c .before .before .before .before .before .before .before .before .before .before .pre .1)
 
 operand-covered-requires : (t : ℕ) → operand-lts.Need-covered-requires (operand-calls t) (operand-at t) operand.Post
 operand-covered-requires t c κs = search needs
@@ -510,7 +510,7 @@ operand-enum-told-2 t c = search needs
 
 operand-returns-3 : (t : ℕ) → operand-lts.Need-returns-3 (operand-calls t) (operand-at t) operand.Post
 operand-returns-3 t c =
-    let a = c .before .before .before .before .before .before .args in
+    let a = c .before .before .before .before .before .before .before .args in
     bracket-too-deep (namesOf (a .table .now)) (a .text .now) (a .account) (a .levels) (a .at) _ (c .before .before .before .token-at .ensures)
     (c .before .enum-told2 .given .1) (c .if3 .taken)
 
@@ -518,7 +518,7 @@ operand-sub-disjunction : (t : ℕ) → operand-lts.Need-sub-disjunction (operan
 operand-sub-disjunction t c = search needs
 
 operand-disjunction-requires : (t : ℕ) → operand-lts.Need-disjunction-requires (operand-calls t) (operand-at t) operand.Post
-operand-disjunction-requires t c κs = (omega (arith, c .before .before .before .before .before .before .pre .0, c .if3 .left), tt)
+operand-disjunction-requires t c κs = (omega (arith, c .before .before .before .before .before .before .before .pre .0, c .if3 .left), c .before .before .before .before .before .before .before .pre .1)
 
 operand-closed-requires : (t : ℕ) → operand-lts.Need-closed-requires (operand-calls t) (operand-at t) operand.Post
 operand-closed-requires t c κs = search needs
@@ -543,49 +543,49 @@ operand-bad-requires-4 t c κs = search needs
 
 operand-returns-4 : (t : ℕ) → operand-lts.Need-returns-4 (operand-calls t) (operand-at t) operand.Post
 operand-returns-4 t c =
-    let a = c .before .before .before .before .before .before .before .args in
+    let a = c .before .before .before .before .before .before .before .before .args in
     starts-with (namesOf (a .table .now)) (a .text .now) (a .account) (a .levels) (a .at) _ (c .before .before .before .before .token-at .ensures)
     (Number _) _ _ (c .before .before .token .given .1) refl (c .number .ensures (namesOf (a .table .now)))
 
 operand-returns-5 : (t : ℕ) → operand-lts.Need-returns-5 (operand-calls t) (operand-at t) operand.Post
 operand-returns-5 t c =
-    let a = c .before .before .before .before .before .before .args in
+    let a = c .before .before .before .before .before .before .before .args in
     starts-with (namesOf (a .table .now)) (a .text .now) (a .account) (a .levels) (a .at) _ (c .before .before .before .token-at .ensures)
     (BadNumber _ _) (wrong _ _) _ (c .before .token2 .given .1) refl refl
 
 operand-returns-6 : (t : ℕ) → operand-lts.Need-returns-6 (operand-calls t) (operand-at t) operand.Post
 operand-returns-6 t c =
-    let a = c .before .before .before .before .before .before .before .args in
+    let a = c .before .before .before .before .before .before .before .before .args in
     starts-with (namesOf (a .table .now)) (a .text .now) (a .account) (a .levels) (a .at) _ (c .before .before .before .before .token-at .ensures)
     Name _ _ (c .before .before .enum-told .given .1) refl (c .named .ensures)
 
 operand-returns-7 : (t : ℕ) → operand-lts.Need-returns-7 (operand-calls t) (operand-at t) operand.Post
 operand-returns-7 t c =
-    let a = c .before .before .before .before .before .before .before .before .before .before .before .args in
+    let a = c .before .before .before .before .before .before .before .before .before .before .before .before .args in
     operator-covers (namesOf (a .table .now)) (a .text .now) (a .account) (a .levels) (a .at) _ (c .before .before .before .before .before .before .before .before .token-at .ensures)
     _ (c .before .before .before .before .before .before .token3 .given .1) _ _ (ap not (sym (c .before .before .before .before .stands-alone .ensures)) ∙ c .before .before .before .if1 .left) (c .before .before .if2 .left) (c .before .operand .ensures) (c .covered .ensures)
 
 operand-returns-8 : (t : ℕ) → operand-lts.Need-returns-8 (operand-calls t) (operand-at t) operand.Post
 operand-returns-8 t c =
-    let a = c .before .before .before .before .before .before .before .before .args in
+    let a = c .before .before .before .before .before .before .before .before .before .args in
     bracket-covers (namesOf (a .table .now)) (a .text .now) (a .account) (a .levels) (a .at) _ (c .before .before .before .before .before .token-at .ensures)
     (c .before .before .before .enum-told2 .given .1) _ _ (c .before .before .if3 .left) (c .before .disjunction .ensures) (c .closed .ensures)
 
 operand-returns-9 : (t : ℕ) → operand-lts.Need-returns-9 (operand-calls t) (operand-at t) operand.Post
 operand-returns-9 t c =
-    let a = c .before .before .before .before .before .before .args in
+    let a = c .before .before .before .before .before .before .before .args in
     starts-with (namesOf (a .table .now)) (a .text .now) (a .account) (a .levels) (a .at) _ (c .before .before .before .token-at .ensures)
     End (wrong _ _) _ (c .before .enum-told3 .given .1) refl (c .bad2 .ensures)
 
 operand-returns-10 : (t : ℕ) → operand-lts.Need-returns-10 (operand-calls t) (operand-at t) operand.Post
 operand-returns-10 t c =
-    let a = c .before .before .before .before .before .before .args in
+    let a = c .before .before .before .before .before .before .before .args in
     starts-with (namesOf (a .table .now)) (a .text .now) (a .account) (a .levels) (a .at) _ (c .before .before .before .token-at .ensures)
     Close (wrong _ _) _ (c .before .enum-told4 .given .1) refl (c .bad3 .ensures)
 
 operand-returns-11 : (t : ℕ) → operand-lts.Need-returns-11 (operand-calls t) (operand-at t) operand.Post
 operand-returns-11 t c =
-    let a = c .before .before .before .before .before .before .args in
+    let a = c .before .before .before .before .before .before .before .args in
     starts-with (namesOf (a .table .now)) (a .text .now) (a .account) (a .levels) (a .at) _ (c .before .before .before .token-at .ensures)
     Strange (wrong _ _) _ (c .before .enum-told5 .given .1) refl (c .bad4 .ensures)
 

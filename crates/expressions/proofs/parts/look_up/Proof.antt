@@ -17,6 +17,7 @@ use Rattle.variables.specs.Names.{Meaning, string-of, integer-of, macro-of, pat
 use Rattle.variables.specs.declared.Found.{Found}
 use Rattle.variables.specs.declared.Found.the-variants.{At, Nothing, Unsound}
 use Rattle.variables.specs.declared.Variable.{Variable}
+use Rattle.variables.proofs.Indexed.{indexed}
 use Rattle.variables.proofs.Own.{Own, meaning-own, own-value}
 use Rattle.expressions.specs.Evaluations.{named, integerOf}
 use Rattle.expressions.specs.Steps.{partBy}
@@ -81,6 +82,15 @@ value-found table place next (suc left) found v (means entry) value o f e k z h 
     integer-part place next (suc left) entry _ (sym (ap (λ (w : Variable). w .kind) same) ∙ k)
     (ap₂ (λ n l. Value n l next) (h ∙ ap pattern lies) fewer)
 
+-- where the name was looked for
+module _ (c : tie.After-find) where
+  abbrev start : tie.Start
+  start = c .before .before .before .before
+
+  -- the index is the table's: what it gave is what the name means
+  found : c .find .result ≡ foundAs (start .args .table .now) (meaningOf (start .args .table .now) (start .args .name .now))
+  found = c .find .ensures ∙ ap (foundAs _) (indexed _ _ (start .pre))
+
 find-requires : tie.Need-find-requires
 find-requires c κs = search needs
 
@@ -104,18 +114,20 @@ refused-requires-3 c κs = search needs
 
 returns : tie.Need-returns
 returns c =
-    let a = c .before .before .before .before .before .before .before .before .before .args in
+    let k = c .before .before .before .before .before .before in
+    let a = start k .args in
     let m = meaningOf (a .table .now) (a .name .now) in
-    other-found (a .table .now) (a .place) (a .next) (a .left) _ _ m _ (c .before .before .before .before .v .given .1) (c .before .before .before .before .before .before .find .ensures) (c .before .if1 .taken) (c .refused3 .ensures)
+    other-found (a .table .now) (a .place) (a .next) (a .left) _ _ m _ (c .before .before .before .before .v .given .1) (found k) (c .before .if1 .taken) (c .refused3 .ensures)
 
 refused-requires-4 : tie.Need-refused-requires-4
 refused-requires-4 c κs = search needs
 
 returns-2 : tie.Need-returns-2
 returns-2 c =
-    let a = c .before .before .before .before .before .before .before .before .before .before .args in
+    let k = c .before .before .before .before .before .before .before in
+    let a = start k .args in
     let m = meaningOf (a .table .now) (a .name .now) in
-    spent-found (a .table .now) (a .place) (a .next) (a .left) _ _ m _ (c .before .before .before .before .before .v .given .1) (c .before .before .before .before .before .before .before .find .ensures) (c .before .before .if1 .left) (c .before .if2 .taken) (c .refused4 .ensures)
+    spent-found (a .table .now) (a .place) (a .next) (a .left) _ _ m _ (c .before .before .before .before .before .v .given .1) (found k) (c .before .before .if1 .left) (c .before .if2 .taken) (c .refused4 .ensures)
 
 value-of-requires : tie.Need-value-of-requires
 value-of-requires c κs = search needs
@@ -123,26 +135,29 @@ value-of-requires c κs = search needs
 pattern-of-requires : tie.Need-pattern-of-requires
 pattern-of-requires c κs = search needs
 
-sub-t12 : tie.Need-sub-t12
-sub-t12 c = search needs
+sub-t13 : tie.Need-sub-t13
+sub-t13 c = search needs
 
 returns-3 : tie.Need-returns-3
 returns-3 c =
-    let a = c .before .before .before .before .before .before .args in
+    let k = c .before .before .before in
+    let a = start k .args in
     let m = meaningOf (a .table .now) (a .name .now) in
-    nothing-found (a .table .now) (a .place) (a .next) (a .left) _ m _ (c .before .enum-told .given .1) (c .before .before .before .find .ensures) (c .refused .ensures)
+    nothing-found (a .table .now) (a .place) (a .next) (a .left) _ m _ (c .before .enum-told .given .1) (found k) (c .refused .ensures)
 
 returns-4 : tie.Need-returns-4
 returns-4 c =
-    let a = c .before .before .before .before .before .before .args in
+    let k = c .before .before .before in
+    let a = start k .args in
     let m = meaningOf (a .table .now) (a .name .now) in
-    unsound-found (a .table .now) (a .place) (a .next) (a .left) _ _ _ m _ (c .before .enum-told2 .given .1) (c .before .before .before .find .ensures) (c .refused2 .ensures)
+    unsound-found (a .table .now) (a .place) (a .next) (a .left) _ _ _ m _ (c .before .enum-told2 .given .1) (found k) (c .refused2 .ensures)
 
 returns-5 : tie.Need-returns-5
 returns-5 c =
-    let a = c .before .before .before .before .before .before .before .before .before .before .before .args in
+    let k = c .before .before .before .before .before .before .before .before in
+    let a = start k .args in
     let m = meaningOf (a .table .now) (a .name .now) in
-    value-found (a .table .now) (a .place) (a .next) (a .left) _ _ m _ (meaning-own (a .table .now) (a .name .now)) (c .before .before .before .before .before .before .v .given .1) (c .before .before .before .before .before .before .before .before .find .ensures) (c .before .before .before .if1 .left) (c .before .before .if2 .left)
+    value-found (a .table .now) (a .place) (a .next) (a .left) _ _ m _ (meaning-own (a .table .now) (a .name .now)) (c .before .before .before .before .before .before .v .given .1) (found k) (c .before .before .before .if1 .left) (c .before .before .if2 .left)
     (c .pattern-of .ensures ∙ ap pattern (c .before .value-of .ensures))
 
 pub look-up-spec : {M : Type 1} → statement M
@@ -161,7 +176,7 @@ look-up-spec =
     returns-2
     value-of-requires
     pattern-of-requires
-    sub-t12
+    sub-t13
     returns-3
     returns-4
     returns-5)
