@@ -7,6 +7,7 @@ ghost use Rattle.variables.specs.Indexes.{indexOf};
 ghost use Rattle.variables.specs.Names.{namesOf};
 ghost use Rattle.gs.specs.Readings.{whole, expands};
 ghost use Rattle.gs.specs.Steps.{Came, Read, pieceOf, lengthIn, behindAt};
+ghost use Rattle.gs.specs.declared.expansion.Expanded.the-variants as Expanded;
 ghost use Rattle.gs.specs.declared.expansion.Progress.the-variants as Progress;
 use crate::bytes::is_ending_space;
 use crate::flags::Flags;
@@ -47,6 +48,18 @@ fn stop(number: u8, place: usize) -> Progress
     ensures { λ r. ⌜ r ≡ Progress.Stopped number place ⌝ }
 {
     Progress::Stopped { number, place }
+}
+
+fn ended(end: usize, at: usize, left: u32) -> Expanded
+    ensures { λ r. ⌜ r ≡ Expanded.Ended end at left ⌝ }
+{
+    Expanded::Ended { end, at, left }
+}
+
+fn halted(number: u8, place: usize) -> Expanded
+    ensures { λ r. ⌜ r ≡ Expanded.Halted number place ⌝ }
+{
+    Expanded::Halted { number, place }
 }
 
 // What a reference gives: one number, the bytes of a value for one look-up, or a macro's value as a text of its own, one level
@@ -143,19 +156,8 @@ pub(crate) fn expand(
         here = run_end;
         let symbol = symbols::symbol_at(text, flags, mode, here);
         match symbol {
-            Symbol::End(end) => {
-                return Expanded::Ended {
-                    end: end.0,
-                    at: to,
-                    left: rest,
-                };
-            }
-            Symbol::Bad { fault, at: place } => {
-                return Expanded::Halted {
-                    number: fault.number(),
-                    place: place.0,
-                };
-            }
+            Symbol::End(end) => return ended(end.0, to, rest),
+            Symbol::Bad { fault, at: place } => return halted(fault.number(), place.0),
             Symbol::Byte(byte, next) => {
                 output::put(byte, to, out);
                 to += 1;
@@ -170,9 +172,7 @@ pub(crate) fn expand(
                         rest = l;
                         here = next;
                     }
-                    Progress::Stopped { number, place } => {
-                        return Expanded::Halted { number, place };
-                    }
+                    Progress::Stopped { number, place } => return halted(number, place),
                 }
             }
         }

@@ -16,6 +16,7 @@ use Rattle.gs.proofs.Places.{Stands, symbol-stands}
 use Rattle.gs.proofs.Follows.{number-gives, too-big-gives, unknown-gives, text-gives, integer-gives, too-deep-gives, spent-gives, value-gives}
 use Rattle.gs.specs.declared.symbols.Mode.{Mode}
 use Rattle.gs.specs.declared.symbols.Symbol.{Symbol}
+use Rattle.gs.specs.declared.expansion.Expanded.{Expanded}
 use Rattle.gs.specs.declared.expansion.Expanded.the-variants.{Halted}
 use Rattle.gs.proofs.Walk.{Walk, start, at-end, at-bad, at-byte, at-reference, at-stop, came-through, came-stopped}
 use Prim.Native.Nat.{ℕ, _<_}
@@ -28,6 +29,8 @@ use Rattle.gs.proofs.expansion.follow.Reads as follow
 use Rattle.gs.proofs.expansion.follow.Kinds as follow-kinds
 use Rattle.gs.proofs.expansion.+expand+follow.Lts-follow as follow-lts
 use Rattle.gs.proofs.expansion.behind.Reads as behind-reads
+use Rattle.gs.proofs.expansion.ended.Reads as ended-reads
+use Rattle.gs.proofs.expansion.halted.Reads as halted-reads
 use Rattle.gs.proofs.expansion.stop.Reads as stop-reads
 use Rattle.gs.proofs.flags.Flags.none.Reads as none-reads
 use Rattle.gs.proofs.bytes.is_ending_space.Reads as is-ending-space-reads
@@ -82,8 +85,12 @@ expand-calls t = (
   copy-reads.Learnt,
   symbol-at-reads.Asked,
   symbol-at-reads.Learnt,
+  ended-reads.Asked,
+  ended-reads.Learnt,
   number-reads.Asked,
   number-reads.Learnt,
+  halted-reads.Asked,
+  halted-reads.Learnt,
   put-reads.Asked,
   put-reads.Learnt,
   resolve-reads.Asked,
@@ -169,6 +176,13 @@ module _ (t : ℕ) (c : expand-lts.After-symbol-at (expand-calls t) (expand-at t
       at-run names (expands names (a .levels)) expand-text (a .flags .0) (a .left) (a .at) (a .out .now) expand-mode (l .out) expand-out (l .here) (l .to) (l .rest)
       expand-here _ (l .inv) (c .before .before .before .before .before .before .before .before .is-ending-space .ensures) (expand-passed .plain-end .ensures) (c .before .before .before .copy .ensures)
 
+  -- that an answer is how far the text came
+  abbrev expand-read : List ℕ → Expanded → Type 0
+  expand-read after r =
+      let a = expand-begun .args in
+      let names = namesOf (a .table .now) in
+      Read (whole names (expands names (a .levels)) expand-text (a .flags .0)) (length expand-text) (a .left) (a .at) (a .out .now) after r
+
   -- where it stands
   expand-stands : (s : Symbol) → c .symbol-at .result ≡ s → Stands (length expand-text) expand-here s
   expand-stands s e =
@@ -179,17 +193,21 @@ module _ (t : ℕ) (c : expand-lts.After-symbol-at (expand-calls t) (expand-at t
 expand-enum-known-symbol : (t : ℕ) → expand-lts.Need-enum-known-symbol (expand-calls t) (expand-at t) expand.Post expand-Inv-loop expand-μ-loop
 expand-enum-known-symbol t c = search needs
 
+expand-ended-requires : (t : ℕ) → expand-lts.Need-ended-requires (expand-calls t) (expand-at t) expand.Post expand-Inv-loop expand-μ-loop
+expand-ended-requires t c κs = search needs
+
 expand-same-length : (t : ℕ) → expand-lts.Need-same-length (expand-calls t) (expand-at t) expand.Post expand-Inv-loop expand-μ-loop
 expand-same-length t c = search needs
 
 expand-returns : (t : ℕ) → expand-lts.Need-returns (expand-calls t) (expand-at t) expand.Post expand-Inv-loop expand-μ-loop
 expand-returns t c =
-    let s = c .before .before .before in
+    let s = c .before .before .before .before in
     let a = expand-begun t s .args in
     let names = namesOf (a .table .now) in
     let rest = expand-turn t s .loop .rest in
-    at-end names (expands names (a .levels)) (expand-text t s) (a .flags .0) (a .left) (a .at) (a .out .now) (expand-mode t s) (expand-out t s) (expand-here t s) (expand-to t s) rest
-    (c .before .symbol .given .0 .0) (expand-walk t s) (sym (s .symbol-at .ensures) ∙ c .before .symbol .given .1)
+    subst (expand-read t s (expand-out t s)) (sym (c .ended .ensures))
+    (at-end names (expands names (a .levels)) (expand-text t s) (a .flags .0) (a .left) (a .at) (a .out .now) (expand-mode t s) (expand-out t s) (expand-here t s) (expand-to t s) rest
+    (c .before .before .symbol .given .0 .0) (expand-walk t s) (sym (s .symbol-at .ensures) ∙ c .before .before .symbol .given .1))
 
 expand-enum-known-symbol-2 : (t : ℕ) → expand-lts.Need-enum-known-symbol-2 (expand-calls t) (expand-at t) expand.Post expand-Inv-loop expand-μ-loop
 expand-enum-known-symbol-2 t c = search needs
@@ -197,18 +215,20 @@ expand-enum-known-symbol-2 t c = search needs
 expand-number-requires : (t : ℕ) → expand-lts.Need-number-requires (expand-calls t) (expand-at t) expand.Post expand-Inv-loop expand-μ-loop
 expand-number-requires t c κs = search needs
 
+expand-halted-requires : (t : ℕ) → expand-lts.Need-halted-requires (expand-calls t) (expand-at t) expand.Post expand-Inv-loop expand-μ-loop
+expand-halted-requires t c κs = search needs
+
 expand-same-length-2 : (t : ℕ) → expand-lts.Need-same-length-2 (expand-calls t) (expand-at t) expand.Post expand-Inv-loop expand-μ-loop
 expand-same-length-2 t c = search needs
 
 expand-returns-2 : (t : ℕ) → expand-lts.Need-returns-2 (expand-calls t) (expand-at t) expand.Post expand-Inv-loop expand-μ-loop
 expand-returns-2 t c =
-    let s = c .before .before .before .before in
+    let s = c .before .before .before .before .before in
     let a = expand-begun t s .args in
     let names = namesOf (a .table .now) in
     let rest = expand-turn t s .loop .rest in
-    let bad = c .before .before .symbol2 .given in
-    subst (λ n. Read (whole names (expands names (a .levels)) (expand-text t s) (a .flags .0)) (length (expand-text t s)) (a .left) (a .at) (a .out .now) (expand-out t s) (Halted n (bad .0 .1 .0 .0)))
-    (sym (c .number .ensures))
+    let bad = c .before .before .before .symbol2 .given in
+    subst (expand-read t s (expand-out t s)) (sym (c .halted .ensures ∙ ap (λ n. Halted n (bad .0 .1 .0 .0)) (c .before .number .ensures)))
     (at-bad names (expands names (a .levels)) (expand-text t s) (a .flags .0) (a .left) (a .at) (a .out .now) (expand-mode t s) (expand-out t s) (expand-here t s) (expand-to t s) rest
     (bad .0 .0) (bad .0 .1 .0) (expand-walk t s) (sym (s .symbol-at .ensures) ∙ bad .1))
 
@@ -305,24 +325,32 @@ expand-loop-again-2 t c =
 expand-enum-known-came-2 : (t : ℕ) → expand-lts.Need-enum-known-came-2 (expand-calls t) (expand-at t) expand.Post expand-Inv-loop expand-μ-loop
 expand-enum-known-came-2 t c = search needs
 
+expand-halted-requires-2 : (t : ℕ) → expand-lts.Need-halted-requires-2 (expand-calls t) (expand-at t) expand.Post expand-Inv-loop expand-μ-loop
+expand-halted-requires-2 t c κs = search needs
+
 expand-same-length-3 : (t : ℕ) → expand-lts.Need-same-length-3 (expand-calls t) (expand-at t) expand.Post expand-Inv-loop expand-μ-loop
-expand-same-length-3 t c = search needs
+expand-same-length-3 t c =
+    let k = c .before in
+    let s = k .before .before .before .before .before .before .before .before .before .before .before .before in
+    omega (arith, expand-walk t s .laid .long, k .before .before .before .before .before .follow .kept)
 
 expand-returns-3 : (t : ℕ) → expand-lts.Need-returns-3 (expand-calls t) (expand-at t) expand.Post expand-Inv-loop expand-μ-loop
 expand-returns-3 t c =
-    let s = c .before .before .before .before .before .before .before .before .before .before .before .before in
+    let k = c .before in
+    let s = k .before .before .before .before .before .before .before .before .before .before .before .before in
     let a = expand-begun t s .args in
     let names = namesOf (a .table .now) in
     let rest = expand-turn t s .loop .rest in
-    let r = c .before .before .before .before .before .before .before .before .before .before .symbol4 .given in
+    let r = k .before .before .before .before .before .before .before .before .before .before .symbol4 .given in
     let name = take (r .0 .1 .0 - r .0 .0) (drop (r .0 .0) (expand-text t s)) in
-    let follow = c .before .before .before .before .before .follow in
+    let follow = k .before .before .before .before .before .follow in
     let came = subst (λ k. Came (pieceOf (a .table .now) (expands names (a .levels)) k name (expand-here t s)) rest (expand-to t s) (expand-out t s) (follow .last .1 .1 .1 .1 .1 .1 .1 .0) (follow .result))
-    (c .before .before .before .before .before .before .before .resolve .ensures) (follow .ensures name) in
+    (k .before .before .before .before .before .before .before .resolve .ensures) (follow .ensures name) in
     let piece = pieceOf (a .table .now) (expands names (a .levels)) (referredIn (a .table .now) name) name (expand-here t s) in
-    let both = came-stopped piece rest (expand-to t s) (expand-out t s) _ _ _ _ came (c .before .came2 .given .1) in
-    at-stop (a .table .now) (expands names (a .levels)) (expand-text t s) (a .flags .0) (a .left) (a .at) (a .out .now) (expand-mode t s) (expand-out t s) (expand-here t s) (expand-to t s) rest
-    (r .0 .0) (r .0 .1 .0) (r .0 .1 .1 .0) (expand-walk t s) (sym (s .symbol-at .ensures) ∙ r .1) _ _ _ (both .0) (both .1)
+    let both = came-stopped piece rest (expand-to t s) (expand-out t s) _ _ _ _ came (k .before .came2 .given .1) in
+    subst (expand-read t s (follow .last .1 .1 .1 .1 .1 .1 .1 .0)) (sym (c .halted2 .ensures))
+    (at-stop (a .table .now) (expands names (a .levels)) (expand-text t s) (a .flags .0) (a .left) (a .at) (a .out .now) (expand-mode t s) (expand-out t s) (expand-here t s) (expand-to t s) rest
+    (r .0 .0) (r .0 .1 .0) (r .0 .1 .1 .0) (expand-walk t s) (sym (s .symbol-at .ensures) ∙ r .1) _ _ _ (both .0) (both .1))
 
 -- what the functions that `follow` calls ask and tell
 abbrev follow-calls : ℕ → follow-lts.Claims
@@ -510,10 +538,12 @@ pub +expand+follow-spec : {M : Type 1} → statement M
     (expand-add-to t)
     (expand-symbol-at-requires t)
     (expand-enum-known-symbol t)
+    (expand-ended-requires t)
     (expand-same-length t)
     (expand-returns t)
     (expand-enum-known-symbol-2 t)
     (expand-number-requires t)
+    (expand-halted-requires t)
     (expand-same-length-2 t)
     (expand-returns-2 t)
     (expand-enum-known-symbol-3 t)
@@ -531,6 +561,7 @@ pub +expand+follow-spec : {M : Type 1} → statement M
     (expand-loop-less-2 t)
     (expand-loop-again-2 t)
     (expand-enum-known-came-2 t)
+    (expand-halted-requires-2 t)
     (expand-same-length-3 t)
     (expand-returns-3 t))
     λ t. follow-lts.spec (follow-calls t) (follow-at t)
