@@ -3,10 +3,15 @@ use mathlib.Core.List.{List, [], _∷_, _++_, List·Memᴰ, List·Memᴰ·head a
 use mathlib.Core.Path.{_≡_, refl, ap, sym, subst, _∙_}
 use Prim.Native.Nat.{ℕ, zero, suc, _≤_}
 use native.Mathlib.Omega.{arith}
-use borrow.Author.Tests.{lt-ltb}
+use borrow.Author.Tests.{lt-ltb, le-ltb}
 use lib.ListN.{length}
 use Rattle.variables.specs.Records.{nextPlace, Entry, entryAt, entries}
-use Rattle.variables.proofs.Walks.{none-left}
+
+-- behind `stop` no record starts
+pub none-left : (table : List ℕ) (stop place left : ℕ) → stop ≤ place → entries left table stop place ≡ []
+unfolding entries
+none-left table stop place zero h = refl
+none-left table stop place (suc left) h = rw (le-ltb place stop h)
 
 -- from a place up to `stop`
 pub data Chain (table : List ℕ) (stop : ℕ) : ℕ → List Entry → Type 0 where

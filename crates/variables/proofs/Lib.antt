@@ -1,6 +1,5 @@
--- Equal names, one step of a walk, what holds of a good table, and the bounds of every answer.
+-- Equal names and their keys, the lines of an index, what holds of a good table, and the bounds of every answer.
 pub mod Equal
-pub mod Walks
 pub mod Chain
 pub mod Keys
 pub mod Lines

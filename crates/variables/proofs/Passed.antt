@@ -8,8 +8,7 @@ use lib.Seq.{drop-cons, append-snoc, set-append-seam, take-append-seam}
 use Rattle.variables.specs.Records.{nextPlace, Entry, entryAt}
 use Rattle.variables.specs.Tables.{most, before}
 use Rattle.variables.specs.Indexes.{lineOf, linesOf, laidOver}
-use Rattle.variables.proofs.Walks.{none-left}
-use Rattle.variables.proofs.Chain.{Chain, end, exact, snoc}
+use Rattle.variables.proofs.Chain.{Chain, end, none-left, exact, snoc}
 
 -- one line more behind others
 laid-more :

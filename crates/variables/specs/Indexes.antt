@@ -1,4 +1,4 @@
--- An index of a table's records: a line for each, of its place and a key of its name. Keys are compared first, and names where the keys are equal.
+-- An index of a table's records: a line for each, of its place and a key of its name. Only inner contracts cite this page.
 use mathlib.Core.Bool.{Bool, cond, _&&_}
 use mathlib.Core.List.{List, [], _∷_, _++_, map}
 use Prim.Native.Nat.{ℕ, _+_, _*_, _/_, _%_}
