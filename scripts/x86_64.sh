@@ -54,7 +54,7 @@ make_by() {
     shift
     if [ -f "$file" ] && [ -f "$made" ] && [ -z "$(find crates.txt crates -name must-fail -prune -o -newer "$made" -print -quit)" ]; then return; fi
     command -v rt >/dev/null || fail "rt, which proves the crates and makes $file, is not on the PATH"
-    tell "proving the crates for $file"
+    tell "proving the crates for $file; from nothing this takes some minutes"
     rm -f "$made"
     : >"$made.start"
     "$@" </dev/null >"$made.log" 2>&1 || fail "$* failed: $(cat "$made.log")"
