@@ -62,6 +62,15 @@ fn operator_behind(text: &[u8], level: u8, part: Part) -> Behind
     }
 }
 
+fn too_deep(place: usize) -> Part
+    ensures { λ r. ⌜ r ≡ Part.Wrong Fault.TooDeep place ⌝ }
+{
+    Part::Wrong {
+        fault: Fault::TooDeep,
+        place,
+    }
+}
+
 fn bad(place: usize) -> Part
     ensures { λ r. ⌜ r ≡ Part.Wrong Fault.BadExpression place ⌝ }
 {
@@ -160,10 +169,7 @@ fn operand(
                 return bad(place);
             }
             if levels == 0 {
-                return Part::Wrong {
-                    fault: Fault::TooDeep,
-                    place,
-                };
+                return too_deep(place);
             }
             parts::covered(
                 operator,
@@ -172,10 +178,7 @@ fn operand(
         }
         Token::Open => {
             if levels == 0 {
-                return Part::Wrong {
-                    fault: Fault::TooDeep,
-                    place,
-                };
+                return too_deep(place);
             }
             closed(
                 text,

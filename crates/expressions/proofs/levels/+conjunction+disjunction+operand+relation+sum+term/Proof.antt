@@ -34,6 +34,7 @@ use Rattle.expressions.proofs.levels.term.Reads as term
 use Rattle.expressions.proofs.levels.term.Kinds as term-kinds
 use Rattle.expressions.proofs.levels.+conjunction+disjunction+operand+relation+sum+term.Lts-term as term-lts
 use Rattle.expressions.proofs.levels.bad.Reads as bad-reads
+use Rattle.expressions.proofs.levels.too_deep.Reads as too-deep-reads
 use Rattle.expressions.proofs.levels.closed.Reads as closed-reads
 use Rattle.expressions.proofs.levels.operator_behind.Reads as operator-behind-reads
 use Rattle.expressions.proofs.operators.Operator.stands_alone.Reads as stands-alone-reads
@@ -429,6 +430,8 @@ operand-calls t = (
   stands-alone-reads.Learnt,
   bad-reads.Asked,
   bad-reads.Learnt,
+  too-deep-reads.Asked,
+  too-deep-reads.Learnt,
   operand-below t,
   operand.Post,
   covered-reads.Asked,
@@ -490,11 +493,16 @@ operand-returns t c =
     misplaced (namesOf (a .table .now)) (a .text .now) (a .account) (a .levels) (a .at) _ (c .before .before .before .before .before .before .token-at .ensures)
     _ (c .before .before .before .before .token3 .given .1) _ (ap not (sym (c .before .before .stands-alone .ensures)) ∙ c .before .if1 .taken) (c .bad .ensures)
 
+operand-too-deep-requires : (t : ℕ) → operand-lts.Need-too-deep-requires (operand-calls t) (operand-at t) operand.Post
+operand-too-deep-requires t c κs = search needs
+
 operand-returns-2 : (t : ℕ) → operand-lts.Need-returns-2 (operand-calls t) (operand-at t) operand.Post
 operand-returns-2 t c =
-    let a = c .before .before .before .before .before .before .before .before .before .before .args in
-    operator-too-deep (namesOf (a .table .now)) (a .text .now) (a .account) (a .levels) (a .at) _ (c .before .before .before .before .before .before .token-at .ensures)
-    _ (c .before .before .before .before .token3 .given .1) (ap not (sym (c .before .before .stands-alone .ensures)) ∙ c .before .if1 .left) (c .if2 .taken)
+    let k = c .before in
+    let a = k .before .before .before .before .before .before .before .before .before .before .args in
+    c .too-deep .ensures
+    ∙ operator-too-deep (namesOf (a .table .now)) (a .text .now) (a .account) (a .levels) (a .at) _ (k .before .before .before .before .before .before .token-at .ensures)
+    _ (k .before .before .before .before .token3 .given .1) (ap not (sym (k .before .before .stands-alone .ensures)) ∙ k .before .if1 .left) (k .if2 .taken)
 
 operand-sub-operand : (t : ℕ) → operand-lts.Need-sub-operand (operand-calls t) (operand-at t) operand.Post
 operand-sub-operand t c = search needs
@@ -508,11 +516,16 @@ operand-covered-requires t c κs = search needs
 operand-enum-told-2 : (t : ℕ) → operand-lts.Need-enum-told-2 (operand-calls t) (operand-at t) operand.Post
 operand-enum-told-2 t c = search needs
 
+operand-too-deep-requires-2 : (t : ℕ) → operand-lts.Need-too-deep-requires-2 (operand-calls t) (operand-at t) operand.Post
+operand-too-deep-requires-2 t c κs = search needs
+
 operand-returns-3 : (t : ℕ) → operand-lts.Need-returns-3 (operand-calls t) (operand-at t) operand.Post
 operand-returns-3 t c =
-    let a = c .before .before .before .before .before .before .before .args in
-    bracket-too-deep (namesOf (a .table .now)) (a .text .now) (a .account) (a .levels) (a .at) _ (c .before .before .before .token-at .ensures)
-    (c .before .enum-told2 .given .1) (c .if3 .taken)
+    let k = c .before in
+    let a = k .before .before .before .before .before .before .before .args in
+    c .too-deep2 .ensures
+    ∙ bracket-too-deep (namesOf (a .table .now)) (a .text .now) (a .account) (a .levels) (a .at) _ (k .before .before .before .token-at .ensures)
+    (k .before .enum-told2 .given .1) (k .if3 .taken)
 
 operand-sub-disjunction : (t : ℕ) → operand-lts.Need-sub-disjunction (operand-calls t) (operand-at t) operand.Post
 operand-sub-disjunction t c = search needs
@@ -630,11 +643,13 @@ pub +conjunction+disjunction+operand+relation+sum+term-spec : {M : Type 1} → s
     (operand-stands-alone-requires t)
     (operand-bad-requires t)
     (operand-returns t)
+    (operand-too-deep-requires t)
     (operand-returns-2 t)
     (operand-sub-operand t)
     (operand-operand-requires t)
     (operand-covered-requires t)
     (operand-enum-told-2 t)
+    (operand-too-deep-requires-2 t)
     (operand-returns-3 t)
     (operand-sub-disjunction t)
     (operand-disjunction-requires t)
