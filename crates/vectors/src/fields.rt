@@ -1,6 +1,6 @@
 // The fields of a case's line. One space stands before each of them but the first.
 use crate::hex;
-use crate::slices::byte;
+use paper::bytes::byte;
 
 // How far a line is read: `at` stands directly behind a field. From the first bad field on `good` stays false, so that an
 // operation asks once, behind its last field.

@@ -1,8 +1,8 @@
 // The lines of standard input, by way of a lent buffer.
 ghost use Prim.Native.Nat.{_≤_};
 ghost use lib.ListN.{length};
-use crate::slices::byte;
 use libc::STDIN_FILENO;
+use paper::bytes::byte;
 
 // Which bytes of the buffer are still to be given out: those from `at` up to `end`.
 pub struct Window {

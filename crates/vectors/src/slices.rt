@@ -1,10 +1,5 @@
 // Slices without a `requires`: what lies outside of one reads as nothing.
 
-// The byte at a place, 0 past the slice's end.
-pub(crate) fn byte(s: &[u8], at: usize) -> u8 {
-    if at < s.len() { s[at] } else { 0 }
-}
-
 // The bytes from `start` up to `end`; none where the slice has no such part.
 pub(crate) fn part(s: &[u8], start: usize, end: usize) -> &[u8] {
     if end < start {
