@@ -1,6 +1,6 @@
 // The bytes of a number: digits of a base, and what they are worth.
 ghost use mathlib.Core.Path.{_≡_};
-ghost use Prim.Native.Nat.{_+_, _*_, _≤_};
+ghost use Prim.Native.Nat.{_+_};
 ghost use lib.ListN.{length, drop};
 ghost use Rattle.reader.specs.Reading.{digit, run, worth, marked};
 ghost use Rattle.reader.specs.Steps.{cut};
@@ -37,16 +37,23 @@ pub(crate) fn digit_of(c: u8) -> u8
     36
 }
 
-// One digit more: 4294967296 stands for every value above 4294967295, so that nothing wraps however many digits come.
-pub(crate) fn one_more(value: u64, base: u8, digit: u8) -> u64
-    requires { ⌜ value ≤ 4294967296 ⌝ }
-    ensures { λ r. ⌜ r ≡ cut (value * base + digit) ⌝ }
+// The first place from `first` on whose byte is no digit of a base.
+fn digits_end(text: &[u8], first: usize, base: u8) -> usize
+    ensures { λ r. ⌜ r ≡ first + length (run base (drop first (now (text .entry)))) ⌝ }
 {
-    let next = value * (base as u64) + (digit as u64);
-    if next < 4294967296 { next } else { 4294967296 }
+    let mut at = first;
+    while at < text.len() {
+        if base <= digit_of(text[at]) {
+            return at;
+        }
+        at += 1;
+    }
+    at
 }
 
-// The digits of a base from the place `first` on.
+// The digits of a base from the place `first` on. 4294967296 stands for every value above 4294967295, so nothing wraps; once it is
+// reached no digit changes it, and only their end is looked for. That branch is hardly ever taken, where a cut at every digit
+// would make the next digit wait for it.
 pub(crate) fn run_from(text: &[u8], first: usize, base: u8) -> Run
     ensures end { λ r. ⌜ r .end ≡ first + length (run base (drop first (now (text .entry)))) ⌝ }
     ensures value { λ r. ⌜ r .value ≡ cut (worth base 0 (run base (drop first (now (text .entry))))) ⌝ }
@@ -58,7 +65,14 @@ pub(crate) fn run_from(text: &[u8], first: usize, base: u8) -> Run
         if base <= d {
             return Run { value, end: at };
         }
-        value = one_more(value, base, d);
+        let next = value * (base as u64) + (d as u64);
+        if 4294967296 <= next {
+            return Run {
+                value: 4294967296,
+                end: digits_end(text, at + 1, base),
+            };
+        }
+        value = next;
         at += 1;
     }
     Run { value, end: at }
