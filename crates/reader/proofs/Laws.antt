@@ -13,25 +13,25 @@ use lib.ListN.{length, getD, drop, length-drop, drop-of-length-le}
 use lib.Seq.{drop-cons}
 use Rattle.paper.proofs.Choice.{either}
 use Rattle.reader.specs.Reading.{digit, run, worth, judged, behind}
-use Rattle.reader.specs.Steps.{cut}
+use Rattle.reader.specs.Steps.{cut, DigitIn}
 
 module _ (text : List ℕ) (at base : ℕ) where
   pub run-end : length text ≤ at → run base (drop at text) ≡ []
   run-end h = rw (drop-of-length-le text h)
 
-  module _ {d : ℕ} (h : at < length text) (e : d ≡ digit (getD text at 0)) where
+  module _ {d : ℕ} (h : at < length text) (e : DigitIn base (digit (getD text at 0)) d) where
     pub run-none : base ≤ d → run base (drop at text) ≡ []
-    run-none l = rw (drop-cons text at 0, ← e, le-ltb d base)
+    run-none l = rw (drop-cons text at 0, le-ltb (digit (getD text at 0)) base (e .outside l))
 
     pub run-more : d < base → run base (drop at text) ≡ d ∷ run base (drop (at + 1) text)
-    run-more l = rw (add-one, drop-cons text at 0, ← e, lt-ltb d base)
+    run-more l = let same = e .inside l in rw (add-one, drop-cons text at 0, ← same, lt-ltb d base)
 
 -- a place up to which only digits were passed: those from there on end where those from `first` on do
 pub record Passed (text : List ℕ) (first base at : ℕ) : Type 0 where
   pub same-end : first + length (run base (drop first text)) ≡ at + length (run base (drop at text))
 
 module _ {text : List ℕ} {first base at : ℕ} (p : Passed text first base at) where
-  pub one-passed : {d : ℕ} → at < length text → d ≡ digit (getD text at 0) → d < base → Passed text first base (at + 1)
+  pub one-passed : {d : ℕ} → at < length text → DigitIn base (digit (getD text at 0)) d → d < base → Passed text first base (at + 1)
   one-passed h e l = record { same-end = omega (arith, p .same-end, ap length (run-more text at base h e l)) }
 
   pub all-passed : run base (drop at text) ≡ [] → at ≡ first + length (run base (drop first text))

@@ -17,16 +17,19 @@ abbrev μ-loop : tie.MeasureT-loop
 loop-holds : tie.Need-loop-holds Inv-loop μ-loop
 loop-holds c = record { same-end = refl }
 
-shared-slice-read-digit-of : tie.Need-shared-slice-read-digit-of Inv-loop μ-loop
-shared-slice-read-digit-of c = omega arith
+wide-requires : tie.Need-wide-requires Inv-loop μ-loop
+wide-requires c κs = search needs
 
-digit-of-requires : tie.Need-digit-of-requires Inv-loop μ-loop
-digit-of-requires c κs = search needs
+shared-slice-read-digit-in : tie.Need-shared-slice-read-digit-in Inv-loop μ-loop
+shared-slice-read-digit-in c = omega arith
+
+digit-in-requires : tie.Need-digit-in-requires Inv-loop μ-loop
+digit-in-requires c κs = search needs
 
 returns : tie.Need-returns Inv-loop μ-loop
 returns c =
-    let t = c .before .before .before in
-    all-passed (t .before .loop .inv) (run-none _ _ _ (t .loop-test .taken) (c .before .digit-of .ensures) (c .if1 .taken))
+    let t = c .before .before .before .before in
+    all-passed (t .before .loop .inv) (run-none _ _ _ (t .loop-test .taken) (c .before .digit-in .ensures) (omega arith))
 
 add-at : tie.Need-add-at Inv-loop μ-loop
 add-at c = omega arith
@@ -36,8 +39,8 @@ loop-less c = omega arith
 
 loop-again : tie.Need-loop-again Inv-loop μ-loop
 loop-again c =
-    let t = c .before .before .before in
-    one-passed (t .before .loop .inv) (t .loop-test .taken) (c .before .digit-of .ensures) (c .if1 .left)
+    let t = c .before .before .before .before in
+    one-passed (t .before .loop .inv) (t .loop-test .taken) (c .before .digit-in .ensures) (omega arith)
 
 returns-2 : tie.Need-returns-2 Inv-loop μ-loop
 returns-2 c = all-passed (c .before .loop .inv) (run-end _ _ _ (c .loop-test .left))
@@ -49,8 +52,9 @@ digits-end-spec =
     Inv-loop
     μ-loop
     loop-holds
-    shared-slice-read-digit-of
-    digit-of-requires
+    wide-requires
+    shared-slice-read-digit-in
+    digit-in-requires
     returns
     add-at
     loop-less

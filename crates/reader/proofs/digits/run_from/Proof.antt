@@ -8,7 +8,7 @@ use native.Mathlib.Omega.{arith}
 use borrow.Author.Needs.{needs}
 use lib.ListN.{length, getD, drop}
 use Rattle.reader.specs.Reading.{digit, run, worth}
-use Rattle.reader.specs.Steps.{cut}
+use Rattle.reader.specs.Steps.{cut, DigitIn}
 use Rattle.reader.proofs.Laws.{run-more, run-none, run-end, Passed, one-passed, all-passed, cut-settled}
 use Rattle.reader.proofs.digits.run_from.Statement.{statement}
 use Rattle.reader.proofs.digits.run_from.Tie as tie
@@ -24,7 +24,7 @@ module _ {text : List ℕ} {first base value at : ℕ} (r : Reached text first b
       (at ≡ first + length (run base (drop first text))) × (value ≡ cut (worth base 0 (run base (drop first text))))
   ended e = (all-passed (r .passed) e, rw (r .worths, e) (omega (arith, r .small)))
 
-  module _ {d : ℕ} (h : at < length text) (e : d ≡ digit (getD text at 0)) (l : d < base) where
+  module _ {d : ℕ} (h : at < length text) (e : DigitIn base (digit (getD text at 0)) d) (l : d < base) where
     worths-more : worth base 0 (run base (drop first text)) ≡ worth base (value * base + d) (run base (drop (at + 1) text))
     worths-more = r .worths ∙ ap (worth base value) (run-more text at base h e l)
 
@@ -48,23 +48,27 @@ abbrev μ-loop : tie.MeasureT-loop
 loop-holds : tie.Need-loop-holds Inv-loop μ-loop
 loop-holds c = record { small = omega arith; passed = record { same-end = refl }; worths = refl }
 
-shared-slice-read-digit-of : tie.Need-shared-slice-read-digit-of Inv-loop μ-loop
-shared-slice-read-digit-of c = omega arith
+shared-slice-read-digit-in : tie.Need-shared-slice-read-digit-in Inv-loop μ-loop
+shared-slice-read-digit-in c = omega arith
 
-digit-of-requires : tie.Need-digit-of-requires Inv-loop μ-loop
-digit-of-requires c κs = search needs
+digit-in-requires : tie.Need-digit-in-requires Inv-loop μ-loop
+digit-in-requires c κs = search needs
+
+wide-requires : tie.Need-wide-requires Inv-loop μ-loop
+wide-requires c κs = search needs
 
 returns : tie.Need-returns Inv-loop μ-loop
 returns c =
-    let t = c .before .before .before in
-    ended (t .before .loop .inv) (run-none _ _ _ (t .loop-test .taken) (c .before .digit-of .ensures) (c .if1 .taken))
+    let t = c .before .before .before .before in
+    ended (t .before .loop .inv) (run-none _ _ _ (t .loop-test .taken) (c .before .before .digit-in .ensures) (omega arith))
 
 -- a value of 32 bits in a base of a byte stays far below 2 ^ 64
 product :
     (c : tie.Else1 Inv-loop μ-loop) →
-    c .before .before .before .before .loop .value * c .before .before .before .before .before .before .args .base ≤ 4294967296 * 255
+    c .before .before .before .before .before .loop .value * c .before .before .before .before .before .before .before .args .base ≤ 4294967296 * 255
 product c =
-    let v : c .before .before .before .before .loop .value ≤ 4294967296 = omega (arith, c .before .before .before .before .loop .inv .small) in
+    let l = c .before .before .before .before .before .loop in
+    let v : l .value ≤ 4294967296 = omega (arith, l .inv .small) in
     mul-le-mul {m₂ = 255} v (omega arith)
 
 mul-next : tie.Need-mul-next Inv-loop μ-loop
@@ -84,8 +88,8 @@ digits-end-requires c κs = search needs
 
 returns-2 : tie.Need-returns-2 Inv-loop μ-loop
 returns-2 c =
-    let t = c .before .before .before .before .before in
-    settled (t .before .loop .inv) (t .loop-test .taken) (c .before .before .before .digit-of .ensures) (c .before .before .if1 .left)
+    let t = c .before .before .before .before .before .before in
+    settled (t .before .loop .inv) (t .loop-test .taken) (c .before .before .before .before .digit-in .ensures) (omega arith)
     (c .before .if2 .taken) (c .digits-end .ensures) (omega arith)
 
 add-at : tie.Need-add-at Inv-loop μ-loop
@@ -96,8 +100,8 @@ loop-less c = omega arith
 
 loop-again : tie.Need-loop-again Inv-loop μ-loop
 loop-again c =
-    let t = c .before .before .before .before in
-    more (t .before .loop .inv) (t .loop-test .taken) (c .before .before .digit-of .ensures) (c .before .if1 .left) (c .if2 .left)
+    let t = c .before .before .before .before .before in
+    more (t .before .loop .inv) (t .loop-test .taken) (c .before .before .before .digit-in .ensures) (omega arith) (c .if2 .left)
 
 returns-3 : tie.Need-returns-3 Inv-loop μ-loop
 returns-3 c = ended (c .before .loop .inv) (run-end _ _ _ (c .loop-test .left))
@@ -109,8 +113,9 @@ run-from-spec =
     Inv-loop
     μ-loop
     loop-holds
-    shared-slice-read-digit-of
-    digit-of-requires
+    shared-slice-read-digit-in
+    digit-in-requires
+    wide-requires
     returns
     mul-next
     cast-next
