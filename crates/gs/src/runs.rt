@@ -70,18 +70,45 @@ fn blocks_end(text: &[u8], start: usize, also: u8) -> usize
     at
 }
 
-// The end of a run of bytes from `start` on that stand for themselves in every text, spaces only where they do not end it.
-pub(crate) fn plain_end(text: &[u8], start: usize, spaces_end: bool) -> usize
-    requires { ⌜ start ≤ length (now text) ⌝ }
-    ensures { λ r. ⌜ Stretch (alsoEnds «spaces_end») (now (text .entry)) start r ⌝ }
+// The end of the bytes from `start` up to `stop` that end no run, one by one.
+fn bytes_end(text: &[u8], start: usize, stop: usize, also: u8) -> usize
+    requires { ⌜ (start ≤ stop) × (stop ≤ length (now text)) ⌝ }
+    ensures { λ r. ⌜ Stretch also (now (text .entry)) start r ⌝ }
 {
-    let also = also_ends(spaces_end);
-    let mut at = blocks_end(text, start, also);
-    while at < text.len() {
+    let mut at = start;
+    while at < stop {
         if !is_plain(text[at], also) {
             return at;
         }
         at += 1;
     }
     at
+}
+
+// A block's length behind `start`, or the text's end where that is nearer.
+fn block_behind(length: usize, start: usize) -> usize
+    requires { ⌜ start ≤ length ⌝ }
+    ensures { λ r. ⌜ (start ≤ r) × (r ≤ length) ⌝ }
+{
+    if length - start < BLOCK {
+        length
+    } else {
+        start + BLOCK
+    }
+}
+
+// The end of a run of bytes from `start` on that stand for themselves in every text, spaces only where they do not end it. The
+// first bytes are looked at one by one: where marks are close together, a block's sum would be taken in vain.
+pub(crate) fn plain_end(text: &[u8], start: usize, spaces_end: bool) -> usize
+    requires { ⌜ start ≤ length (now text) ⌝ }
+    ensures { λ r. ⌜ Stretch (alsoEnds «spaces_end») (now (text .entry)) start r ⌝ }
+{
+    let also = also_ends(spaces_end);
+    let near = block_behind(text.len(), start);
+    let at = bytes_end(text, start, near, also);
+    if at < near {
+        return at;
+    }
+    let far = blocks_end(text, at, also);
+    bytes_end(text, far, text.len(), also)
 }

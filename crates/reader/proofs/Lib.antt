@@ -1,4 +1,5 @@
 -- The laws that several proofs cite, and the bounds of every answer.
+pub mod DigitBytes
 pub mod Laws
 pub mod Bounds
 pub mod ReadBack

@@ -1,74 +1,49 @@
--- `plain_end` meets its contract. The loop's invariant: no byte from the start up to here ends a run. The measure is what is left of
--- the text.
+-- `plain_end` meets its contract: the single bytes, the blocks behind them and the single bytes behind those are runs, one behind the
+-- other.
 use mathlib.Core.Path.{subst}
-use Prim.Native.Nat.{_-_}
-use native.Mathlib.Omega.{arith}
-use lib.ListN.{length}
 use Rattle.gs.specs.SymbolSteps.{Stretch}
-use Rattle.gs.proofs.PlainRuns.{stretch-next}
+use Rattle.gs.proofs.PlainRuns.{stretch-more}
 use borrow.Author.Needs.{needs}
-use borrow.Author.Tests.{not-false}
 use Rattle.gs.proofs.runs.plain_end.Statement.{statement}
 use Rattle.gs.proofs.runs.plain_end.Tie as tie
 
-abbrev Inv-loop : tie.InvT-loop
-Inv-loop text start spaces-end also at₀ at = Stretch also text start at
-
-abbrev μ-loop : tie.MeasureT-loop
-μ-loop text start spaces-end also at₀ at = length text - at
-
-also-ends-requires : tie.Need-also-ends-requires Inv-loop μ-loop
+also-ends-requires : tie.Need-also-ends-requires
 also-ends-requires c κs = search needs
 
-blocks-end-requires : tie.Need-blocks-end-requires Inv-loop μ-loop
+block-behind-requires : tie.Need-block-behind-requires
+block-behind-requires c κs = search needs
+
+bytes-end-requires : tie.Need-bytes-end-requires
+bytes-end-requires c κs = search needs
+
+returns : tie.Need-returns
+returns c =
+    let s = c .before .before .before in
+    let a = s .before .before .args in
+    subst (λ also. Stretch also (a .text .now) (a .start) (c .before .bytes-end .result)) (s .also-ends .ensures) (c .before .bytes-end .ensures)
+
+blocks-end-requires : tie.Need-blocks-end-requires
 blocks-end-requires c κs = search needs
 
-loop-holds : tie.Need-loop-holds Inv-loop μ-loop
-loop-holds c = c .blocks-end .ensures
+bytes-end-requires-2 : tie.Need-bytes-end-requires-2
+bytes-end-requires-2 c κs = search needs
 
-shared-slice-read-is-plain : tie.Need-shared-slice-read-is-plain Inv-loop μ-loop
-shared-slice-read-is-plain c = search needs
-
-is-plain-requires : tie.Need-is-plain-requires Inv-loop μ-loop
-is-plain-requires c κs = search needs
-
-returns : tie.Need-returns Inv-loop μ-loop
-returns c =
-    let a = c .before .before .before .before .before .before .before .before .args in
-    let l = c .before .before .before .before .loop in
-    subst (λ also. Stretch also (a .text .now) (a .start) (l .at)) (c .before .before .before .before .before .before .also-ends .ensures) (l .inv)
-
-add-at : tie.Need-add-at Inv-loop μ-loop
-add-at c = search needs
-
-loop-less : tie.Need-loop-less Inv-loop μ-loop
-loop-less c = search needs
-
-loop-again : tie.Need-loop-again Inv-loop μ-loop
-loop-again c =
-    let a = c .before .before .before .before .before .before .before .before .args in
-    let l = c .before .before .before .before .loop in
-    stretch-next _ (a .text .now) (a .start) (l .at) _ (l .inv) (omega arith) (omega arith) (c .before .is-plain .ensures (not-false _ (c .if1 .left)))
-
-returns-2 : tie.Need-returns-2 Inv-loop μ-loop
+returns-2 : tie.Need-returns-2
 returns-2 c =
-    let a = c .before .before .before .before .before .args in
-    let l = c .before .loop in
-    subst (λ also. Stretch also (a .text .now) (a .start) (l .at)) (c .before .before .before .also-ends .ensures) (l .inv)
+    let s = c .before .before .before .before .before in
+    let a = s .before .before .args in
+    let more = stretch-more (s .also-ends .result) (a .text .now) (a .start) in
+    subst (λ also. Stretch also (a .text .now) (a .start) (c .bytes-end2 .result)) (s .also-ends .ensures)
+    (more _ _ (more _ _ (c .before .before .before .bytes-end .ensures) (c .before .blocks-end .ensures)) (c .bytes-end2 .ensures))
 
 pub plain-end-spec : {M : Type 1} → statement M
 plain-end-spec =
     tie.close
     (tie.spec
-    Inv-loop
-    μ-loop
     also-ends-requires
-    blocks-end-requires
-    loop-holds
-    shared-slice-read-is-plain
-    is-plain-requires
+    block-behind-requires
+    bytes-end-requires
     returns
-    add-at
-    loop-less
-    loop-again
+    blocks-end-requires
+    bytes-end-requires-2
     returns-2)
