@@ -1,5 +1,6 @@
 -- `judge` meets its contract: each return knows the outcomes of the tests before it.
 use mathlib.Core.Path.{sym, _∙_}
+use native.Mathlib.Omega.{arith}
 use borrow.Author.Needs.{needs}
 use borrow.Author.Tests.{eq-eqb, ne-eqb, lt-ltb, le-ltb}
 use Rattle.reader.specs.Reading.{judged}
@@ -11,7 +12,9 @@ refused-requires c κs = search needs
 
 returns : tie.Need-returns
 unfolding judged
-returns c = rw (c .refused .ensures, eq-eqb _ _ (c .before .if1 .taken))
+returns c =
+    let a = c .before .before .before .args in
+    rw (c .refused .ensures, eq-eqb (a .run .end) (a .first) (omega arith))
 
 refused-requires-2 : tie.Need-refused-requires-2
 refused-requires-2 c κs = search needs
