@@ -1,5 +1,6 @@
 // Digits: how many a number has, how far they spread with their spaces, and the writing of them.
 ghost use mathlib.Core.Path.{_≡_};
+ghost use mathlib.Core.Bool.{cond};
 ghost use mathlib.Core.List.{_++_};
 ghost use Prim.Native.Nat.{_+_, _-_, _≤_};
 ghost use lib.ListN.{length, take, drop};
@@ -13,7 +14,18 @@ use crate::forms::Base;
 pub(crate) fn count_digits(base: Base, n: u32) -> usize
     ensures { λ r. ⌜ r ≡ digitCount (radix base) n ⌝ }
 {
-    let radix = base.radix() as u64;
+    match base {
+        Base::Two => count_by_powers(2, n),
+        Base::Ten => count_decimal(n),
+        Base::Sixteen => count_by_powers(16, n),
+    }
+}
+
+// The digits of n, power by power. A form may count in any base; the calls count in base ten only.
+fn count_by_powers(radix: u64, n: u32) -> usize
+    requires { ⌜ (2 ≤ radix) × (radix ≤ 16) ⌝ }
+    ensures { λ r. ⌜ r ≡ digitCount radix n ⌝ }
+{
     let wide = n as u64;
     let mut limit = radix;
     let mut count = 1;
@@ -22,6 +34,25 @@ pub(crate) fn count_digits(base: Base, n: u32) -> usize
         count += 1;
     }
     count
+}
+
+// The decimal digits of n: one, and one more for each power of ten that n reaches. Nothing here is a jump that could be guessed wrong.
+pub(crate) fn count_decimal(n: u32) -> usize
+    ensures { λ r. ⌜ r ≡ digitCount 10 n ⌝ }
+{
+    let thousands = one_if(10 <= n) + one_if(100 <= n) + one_if(1000 <= n);
+    let millions = one_if(10000 <= n) + one_if(100000 <= n) + one_if(1000000 <= n);
+    let billions = one_if(10000000 <= n) + one_if(100000000 <= n) + one_if(1000000000 <= n);
+    1 + thousands + millions + billions
+}
+
+pub(crate) fn one_if(present: bool) -> usize
+    ensures { λ r. ⌜ (r ≡ cond present 1 0) × (r ≤ 1) ⌝ }
+{
+    if present {
+        return 1;
+    }
+    0
 }
 
 // Whether a space stands before the last `count` digits.

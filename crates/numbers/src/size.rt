@@ -1,11 +1,12 @@
 // The size of a string before it is written: its sign, its digits, the room that it takes.
 ghost use mathlib.Core.Path.{_≡_};
-ghost use mathlib.Core.Bool.{_&&_, cond};
+ghost use mathlib.Core.Bool.{_&&_};
 ghost use Prim.Native.Nat.{_*_, _-_, _<_, _≤_, _^_};
 ghost use lib.Dec.{leb};
 ghost use Rattle.numbers.specs.Strings.{bits, magnitude, negative, count};
 ghost use Rattle.numbers.specs.Steps.{sizeOf};
 use crate::digits::count_digits;
+use crate::digits::one_if;
 use crate::digits::spread;
 use crate::forms::Form;
 use crate::forms::Width;
@@ -55,15 +56,6 @@ fn digits_in(form: Form, n: u32) -> usize
         return count_digits(base, n);
     }
     fixed as usize
-}
-
-fn one_if(present: bool) -> usize
-    ensures { λ r. ⌜ (r ≡ cond present 1 0) × (r ≤ 1) ⌝ }
-{
-    if present {
-        return 1;
-    }
-    0
 }
 
 fn size_of(form: Form, negative: bool, magnitude: u32) -> Size
