@@ -38,7 +38,7 @@ fn count_by_powers(radix: u64, n: u32) -> usize
 
 // The decimal digits of n: one, and one more for each power of ten that n reaches. Nothing here is a jump that could be guessed wrong.
 pub(crate) fn count_decimal(n: u32) -> usize
-    ensures { λ r. ⌜ r ≡ digitCount 10 n ⌝ }
+    ensures { λ r. ⌜ (r ≡ digitCount 10 n) × (r ≤ 10) ⌝ }
 {
     let thousands = one_if(10 <= n) + one_if(100 <= n) + one_if(1000 <= n);
     let millions = one_if(10000 <= n) + one_if(100000 <= n) + one_if(1000000 <= n);

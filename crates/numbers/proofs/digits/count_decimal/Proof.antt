@@ -70,6 +70,7 @@ regrouped a′ b′ c′ d′ e′ f′ g′ h′ i′ p q r s t u v w x = omega
 returns : tie.Need-returns
 returns c =
     let n = c .before .before .before .before .before .before .before .before .before .args .n in
+    let counted =
     regrouped _ _ _ _ _ _ _ _ _
     (c .before .before .before .before .before .before .before .before .one-if .ensures .0)
     (c .before .before .before .before .before .before .before .one-if2 .ensures .0)
@@ -80,7 +81,8 @@ returns c =
     (c .before .before .one-if7 .ensures .0)
     (c .before .one-if8 .ensures .0)
     (c .one-if9 .ensures .0)
-    ∙ sym (enough-reached 10 n 9 n 1 (omega arith) (omega arith) (omega arith))
+    ∙ sym (enough-reached 10 n 9 n 1 (omega arith) (omega arith) (omega arith)) in
+    (counted, omega arith)
 
 pub count-decimal-spec : {M : Type 1} → statement M
 count-decimal-spec =

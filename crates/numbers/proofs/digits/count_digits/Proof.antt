@@ -25,7 +25,7 @@ returns : tie.Need-returns
 returns c = rw (c .before .enum-told .given .1) (c .count-by-powers .ensures)
 
 returns-2 : tie.Need-returns-2
-returns-2 c = rw (c .before .enum-told2 .given .1) (c .count-decimal .ensures)
+returns-2 c = rw (c .before .enum-told2 .given .1) (c .count-decimal .ensures .0)
 
 returns-3 : tie.Need-returns-3
 returns-3 c = rw (c .before .enum-told3 .given .1) (c .count-by-powers2 .ensures)
