@@ -9,10 +9,10 @@ use native.Mathlib.Decide.{decLt}
 use native.Mathlib.Omega.{arith}
 use lib.Dec.{ltb, leb, eqb}
 use lib.ListN.{length, length-append}
-use borrow.Author.Tests.{lt-ltb, le-ltb, lt-leb, ltb-true, ltb-false, leb-true, leb-false, eqb-true, eqb-false}
+use borrow.Author.Tests.{lt-ltb, le-ltb, lt-leb, ltb-true, ltb-false, leb-true, leb-false, eq-eqb, ne-eqb, eqb-true, eqb-false}
 use Rattle.paper.proofs.Choice.{either}
-use Rattle.numbers.specs.Digits.{gapped, gap, digits, enough, digitCount}
-use Rattle.numbers.specs.Steps.{spreadOf, charactersOf}
+use Rattle.numbers.specs.Digits.{gap, digits, enough, digitCount}
+use Rattle.numbers.specs.Steps.{spreadOf, groupOf, gapBefore, charactersOf}
 use Rattle.numbers.specs.Strings.{radix, negative, magnitude, count, minus, string}
 use Rattle.numbers.specs.declared.forms.Base.{Base}
 use Rattle.numbers.specs.declared.forms.Base.the-variants.{Two, Ten, Sixteen}
@@ -36,9 +36,6 @@ enough-here b n (suc more) k h = rw (lt-ltb n (b ^ k) h)
 enough-later : (b n more k : ℕ) → b ^ k ≤ n → enough b n (suc more) k ≡ enough b n more (suc k)
 unfolding enough
 enough-later b n more k h = rw (le-ltb n (b ^ k) h)
-
-pub gap-one : (s : Bool) (k : ℕ) → gapped s k ≡ true → gap s k ≡ 32 ∷ []
-gap-one s k h = ap (λ g. cond g (32 ∷ []) []) h
 
 -- no more digits than any number of them that is enough
 pub enough-least : (b n more k m : ℕ) → 0 < b → n < b ^ m → k ≤ m → enough b n more k ≤ m
@@ -95,6 +92,19 @@ enough-reached b n (suc j) more k two high e =
     let low : n < b ^ k = leb-false (b ^ k) n t in
     let higher : n < b ^ suc k = omega (arith, pow-le-pow-right {n = b} (omega arith) {i = k} {j = suc k} (omega arith)) in
     enough-here b n more k low ∙ omega (arith, reached-none b n j (suc k) (omega arith) higher))
+
+-- a space stands before whole groups: where the group that was counted along is whole
+pub gap-by-group : (s : Bool) (k : ℕ) → gapBefore s (groupOf k) ≡ gap s k
+gap-by-group s k = ap (λ t. cond (s && t) (32 ∷ []) []) (go (ltb 0 k) (eqb (k % 3) 0) refl refl)
+  where
+    go : (p q : Bool) → ltb 0 k ≡ p → eqb (k % 3) 0 ≡ q → eqb (groupOf k) 3 ≡ (p && q)
+    go true true e f = eq-eqb (groupOf k) 3 (omega (arith, ltb-true 0 k e, eqb-true (k % 3) 0 f))
+    go true false e f = ne-eqb (groupOf k) 3 (λ g. omega (arith, ltb-true 0 k e, eqb-false (k % 3) 0 f))
+    go false q e f = ne-eqb (groupOf k) 3 (λ g. omega (arith, ltb-false 0 k e))
+
+pub group-next : (k : ℕ) → cond (eqb (groupOf k) 3) 1 (groupOf k + 1) ≡ groupOf (k + 1)
+group-next k =
+    either (λ g. g ≡ groupOf (k + 1)) (eqb (groupOf k) 3) (λ e. omega (arith, eqb-true (groupOf k) 3 e)) (λ e. omega (arith, eqb-false (groupOf k) 3 e))
 
 -- the room for one digit more, with the space behind it
 pub spread-suc : (s : Bool) (k : ℕ) → spreadOf s (suc k) ≡ suc (length (gap s k) + spreadOf s k)

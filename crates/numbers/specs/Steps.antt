@@ -2,7 +2,7 @@
 use mathlib.Core.Bool.{Bool, true, false, cond, _&&_}
 use mathlib.Core.List.{List, [], _∷_, _++_}
 use Prim.Native.Nat.{ℕ, _+_, _-_, _*_, _/_, _%_, _^_}
-use lib.Dec.{ltb, leb}
+use lib.Dec.{ltb, leb, eqb}
 use lib.ListN.{length, drop}
 use Rattle.paper.specs.Refusals.{no-room}
 use Rattle.numbers.specs.Digits.{digits}
@@ -43,6 +43,14 @@ numberIn signed width value =
 -- the room that k digits take with their spaces
 abbrev pub spreadOf : Bool → ℕ → ℕ
 spreadOf spaced k = cond spaced (k + (k - 1) / 3) k
+
+-- the last k digits stand in groups of three from the right: how many the first group has
+abbrev pub groupOf : ℕ → ℕ
+groupOf k = k - 3 * ((k - 1) / 3)
+
+-- what stands before a group: one space, if it is whole
+abbrev pub gapBefore : Bool → ℕ → List ℕ
+gapBefore spaced group = cond (spaced && eqb group 3) (32 ∷ []) []
 
 -- the characters of a number's string, below 0 or not
 abbrev pub charactersOf : Form → Bool → ℕ → ℕ

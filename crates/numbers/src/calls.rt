@@ -11,7 +11,7 @@ pub enum Described {
     Known(Form),
 }
 
-// What the calls are, apart from their widths.
+// The family of a call with its width, or that a number is no call's.
 pub(crate) enum Family {
     NoCall,
     Hex(Width),

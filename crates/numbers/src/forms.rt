@@ -112,7 +112,7 @@ impl Width {
     }
 }
 
-// What a value leaves over by a span. A span is a power of two, so that a mask does it, with no division and no jump by the width.
+// What a division by a span leaves of a value. A span is a power of two, so a mask does it, with no jump that goes by the width.
 pub(crate) fn low_part(value: u32, span: u64) -> u32
     requires { ⌜ ((k : ℕ) × (k ≤ 32) × (span ≡ 2 ^ k)) ⌝ }
     ensures { λ r. ⌜ r ≡ value % span ⌝ }

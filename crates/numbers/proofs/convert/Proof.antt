@@ -5,7 +5,7 @@ use Prim.Native.Nat.{ℕ, _/_}
 use native.Mathlib.Omega.{arith}
 use lib.ListN.{length}
 use borrow.Author.Needs.{needs}
-use Rattle.numbers.specs.Strings.{bits, conversion, bufferAfter}
+use Rattle.numbers.specs.Strings.{conversion, bufferAfter}
 use Rattle.numbers.specs.Calls.{described, answerIn, bufferIn, answerOf, bufferOf}
 use Rattle.numbers.specs.Steps.{formOf, fixedForm}
 use Rattle.numbers.specs.declared.Converted.{Converted}

@@ -13,7 +13,6 @@ use Rattle.paper.proofs.Choice.{below, not-below}
 use Rattle.numbers.specs.Digits.{digits}
 use Rattle.numbers.specs.Strings.{radix, minus}
 use Rattle.numbers.specs.Steps.{spreadOf, stringOf, zeroIf, answered, leaves}
-use Rattle.numbers.specs.declared.Converted.{Converted}
 use Rattle.numbers.specs.declared.Converted.the-variants.{Written, Refused}
 use Rattle.numbers.specs.declared.size.Number.{Number}
 use Rattle.numbers.proofs.Laws.{digits-length}

@@ -1,12 +1,11 @@
 -- `count_by_powers` meets its contract. At the loop's head the limit is a power of the base, and what is left of the definition's
 -- own walk starts there.
 use mathlib.Core.Path.{_≡_, refl, ap, sym, _∙_}
-use Prim.Native.Nat.{ℕ, suc, _+_, _-_, _*_, _^_, _≤_, _<_}
+use Prim.Native.Nat.{ℕ, _+_, _-_, _*_, _^_, _≤_, _<_}
 use native.Mathlib.Nat.{pow-zero, pow-suc, one-mul, mul-le-mul, mul-le-mul-left}
 use native.Mathlib.Numerals.{add-one}
 use native.Mathlib.Omega.{arith}
-use borrow.Author.Needs.{needs}
-use Rattle.numbers.specs.Digits.{enough, digitCount}
+use Rattle.numbers.specs.Digits.{enough}
 use Rattle.numbers.proofs.Laws.{below-power, enough-here, enough-next}
 use Rattle.numbers.proofs.digits.count_by_powers.Statement.{statement}
 use Rattle.numbers.proofs.digits.count_by_powers.Tie as tie
