@@ -121,10 +121,11 @@ fn write_number(
         digits::put_digits(base, spaced, count, number.magnitude, length, buf);
         put_if(negative, b'-', 0, buf);
         put_if(terminated, 0, length, buf);
+        let free = room - length;
         Converted::Written {
             offset: length,
             need,
-            free: room - length,
+            free,
         }
     }
 }

@@ -44,9 +44,6 @@ put-if-requires c κs = search needs
 put-if-requires-2 : tie.Need-put-if-requires-2
 put-if-requires-2 c κs = search needs
 
-sub-t22 : tie.Need-sub-t22
-sub-t22 c = search needs
-
 one-long : (wanted : Bool) (x : ℕ) → cond wanted 1 0 ≡ length (cond wanted (x ∷ []) [])
 one-long true x = refl
 one-long false x = refl
@@ -116,19 +113,27 @@ module _ (number : Number) (base k : ℕ) (spaced terminated : Bool) (sign sprea
 
 returns : tie.Need-returns
 returns c =
-    let a = c .before .before .before .before .before .args in
+    let sized = c .before in
+    let a = sized .before .before .before .before .args in
     refuses (a .number) (radix (a .base)) (a .count) (a .spaced) (a .terminated) _ _ _
-    (c .before .before .before .one-if .ensures .0) (c .before .before .spread .ensures .0) (c .before .one-if2 .ensures .0) (a .buf .now) (c .if1 .taken)
+    (sized .before .before .one-if .ensures .0) (sized .before .spread .ensures .0) (sized .one-if2 .ensures .0) (a .buf .now) (omega arith)
 
 same-length : tie.Need-same-length
 same-length c = search needs
 
 returns-2 : tie.Need-returns-2
 returns-2 c =
-    let a = c .before .before .before .before .before .before .before .before .before .before .before .before .before .before .before .before .before .args in
+    let signed = c .before .before .before .before .before .before in
+    let laid = signed .before .before .before .before in
+    let room = laid .before .before in
+    let sized = room .before in
+    let a = sized .before .before .before .before .args in
     accepts (a .number) (radix (a .base)) (a .count) (a .spaced) (a .terminated) _ _ _
-    (c .before .before .before .before .before .before .before .before .before .before .before .before .before .before .before .one-if .ensures .0) (c .before .before .before .before .before .before .before .before .before .before .before .before .before .before .spread .ensures .0) (c .before .before .before .before .before .before .before .before .before .before .before .before .before .one-if2 .ensures .0) (a .buf .now) _ _ _
-    (c .before .before .before .before .before .before .before .before .before .before .before .before .if1 .left) (c .before .before .before .before .before .before .before .before .before .before .put-digits .ensures) (c .before .before .before .before .before .before .put-if .ensures) (c .before .before .put-if2 .ensures)
+    (sized .before .before .one-if .ensures .0) (sized .before .spread .ensures .0) (sized .one-if2 .ensures .0)
+    (a .buf .now) _ _ _ (omega (arith, room .if1 .left)) (laid .put-digits .ensures) (signed .put-if .ensures) (c .before .before .put-if2 .ensures)
+
+sub-free : tie.Need-sub-free
+sub-free c = search needs
 
 pub write-number-spec : {M : Type 1} → statement M
 write-number-spec =
@@ -142,7 +147,7 @@ write-number-spec =
     put-digits-requires
     put-if-requires
     put-if-requires-2
-    sub-t22
+    sub-free
     returns
     same-length
     returns-2)
