@@ -7,12 +7,12 @@ use native.Mathlib.Nat.{add-zero, add-suc, suc-add, pow-zero, pow-suc, mul-le-mu
 use native.Mathlib.Numerals.{add-one}
 use native.Mathlib.Decide.{decLt}
 use native.Mathlib.Omega.{arith}
-use lib.Dec.{ltb, eqb}
+use lib.Dec.{ltb, leb, eqb}
 use lib.ListN.{length, length-append}
-use borrow.Author.Tests.{lt-ltb, le-ltb, ltb-true, ltb-false, eqb-true, eqb-false}
+use borrow.Author.Tests.{lt-ltb, le-ltb, lt-leb, ltb-true, ltb-false, leb-true, leb-false, eq-eqb, ne-eqb, eqb-true, eqb-false}
 use Rattle.paper.proofs.Choice.{either}
-use Rattle.numbers.specs.Digits.{gapped, gap, digits, enough, digitCount}
-use Rattle.numbers.specs.Steps.{spreadOf, charactersOf}
+use Rattle.numbers.specs.Digits.{gap, digits, enough, digitCount}
+use Rattle.numbers.specs.Steps.{spreadOf, groupOf, gapBefore, charactersOf}
 use Rattle.numbers.specs.Strings.{radix, negative, magnitude, count, minus, string}
 use Rattle.numbers.specs.declared.forms.Base.{Base}
 use Rattle.numbers.specs.declared.forms.Base.the-variants.{Two, Ten, Sixteen}
@@ -36,9 +36,6 @@ enough-here b n (suc more) k h = rw (lt-ltb n (b ^ k) h)
 enough-later : (b n more k : ℕ) → b ^ k ≤ n → enough b n (suc more) k ≡ enough b n more (suc k)
 unfolding enough
 enough-later b n more k h = rw (le-ltb n (b ^ k) h)
-
-pub gap-one : (s : Bool) (k : ℕ) → gapped s k ≡ true → gap s k ≡ 32 ∷ []
-gap-one s k h = ap (λ g. cond g (32 ∷ []) []) h
 
 -- no more digits than any number of them that is enough
 pub enough-least : (b n more k m : ℕ) → 0 < b → n < b ^ m → k ≤ m → enough b n more k ≤ m
@@ -70,6 +67,44 @@ pub enough-next : (b n more k : ℕ) → 2 ≤ b → b ^ k ≤ n → k + more �
     → (m : ℕ) × (k + 1 + m ≡ n + 1) × (enough b n more k ≡ enough b n m (k + 1))
 enough-next b n zero k two low e = absurd (omega (arith, below-power b k two))
 enough-next b n (suc m) k two low e = (m, omega arith, enough-later b n m k low ∙ ap (enough b n m) (sym (add-one k)))
+
+-- how many of the j powers of b from the k-th on n reaches
+abbrev pub reached : ℕ → ℕ → ℕ → ℕ → ℕ
+reached b n zero k = 0
+reached b n (suc j) k = cond (leb (b ^ k) n) 1 0 + reached b n j (suc k)
+
+reached-none : (b n j k : ℕ) → 0 < b → n < b ^ k → reached b n j k ≡ 0
+reached-none b n zero k pos h = refl
+reached-none b n (suc j) k pos h =
+    let higher : n < b ^ suc k = omega (arith, pow-le-pow-right pos {i = k} {j = suc k} (omega arith)) in
+    rw (lt-leb (b ^ k) n h) (omega (arith, reached-none b n j (suc k) pos higher))
+
+-- a number has one digit more for each power that it reaches
+pub enough-reached : (b n j more k : ℕ) → 2 ≤ b → n < b ^ (k + j) → k + more ≡ n + 1 → enough b n more k ≡ k + reached b n j k
+enough-reached b n zero more k two high e = enough-here b n more k (rw add-zero at high) ∙ sym (add-zero k)
+enough-reached b n (suc j) more k two high e =
+    either (λ v. enough b n more k ≡ k + (v + reached b n j (suc k))) (leb (b ^ k) n) {x = 1} {y = 0}
+    (λ t.
+    let next = enough-next b n more k two (leb-true (b ^ k) n t) e in
+    let later = enough-reached b n j (next .0) (suc k) two (subst (λ m. n < b ^ m) (add-suc k j ∙ sym (suc-add k j)) high) (omega (arith, next .1)) in
+    next .2 ∙ ap (enough b n (next .0)) (add-one k) ∙ later ∙ omega arith)
+    (λ t.
+    let low : n < b ^ k = leb-false (b ^ k) n t in
+    let higher : n < b ^ suc k = omega (arith, pow-le-pow-right {n = b} (omega arith) {i = k} {j = suc k} (omega arith)) in
+    enough-here b n more k low ∙ omega (arith, reached-none b n j (suc k) (omega arith) higher))
+
+-- a space stands before whole groups: where the group that was counted along is whole
+pub gap-by-group : (s : Bool) (k : ℕ) → gapBefore s (groupOf k) ≡ gap s k
+gap-by-group s k = ap (λ t. cond (s && t) (32 ∷ []) []) (go (ltb 0 k) (eqb (k % 3) 0) refl refl)
+  where
+    go : (p q : Bool) → ltb 0 k ≡ p → eqb (k % 3) 0 ≡ q → eqb (groupOf k) 3 ≡ (p && q)
+    go true true e f = eq-eqb (groupOf k) 3 (omega (arith, ltb-true 0 k e, eqb-true (k % 3) 0 f))
+    go true false e f = ne-eqb (groupOf k) 3 (λ g. omega (arith, ltb-true 0 k e, eqb-false (k % 3) 0 f))
+    go false q e f = ne-eqb (groupOf k) 3 (λ g. omega (arith, ltb-false 0 k e))
+
+pub group-next : (k : ℕ) → cond (eqb (groupOf k) 3) 1 (groupOf k + 1) ≡ groupOf (k + 1)
+group-next k =
+    either (λ g. g ≡ groupOf (k + 1)) (eqb (groupOf k) 3) (λ e. omega (arith, eqb-true (groupOf k) 3 e)) (λ e. omega (arith, eqb-false (groupOf k) 3 e))
 
 -- the room for one digit more, with the space behind it
 pub spread-suc : (s : Bool) (k : ℕ) → spreadOf s (suc k) ≡ suc (length (gap s k) + spreadOf s k)

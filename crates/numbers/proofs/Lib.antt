@@ -1,5 +1,7 @@
--- Laws of the digits, of a buffer that is written from the right, of the families of the calls, and of their answers' size.
+-- Laws of the digits, of a buffer that is written from the right, of the families of the calls, of their answers' size, and of the
+-- parts of a form.
 pub mod Laws
 pub mod Buffer
 pub mod Families
 pub mod Bounds
+pub mod Parts

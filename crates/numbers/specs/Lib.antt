@@ -1,5 +1,5 @@
 -- Numbers to strings, in the paper's order: the digits of a number, the string of a form, the calls.
 pub mod Digits
 pub mod Strings
-pub mod Steps
 pub mod Calls
+pub mod Steps

@@ -1,19 +1,32 @@
 // Digits: how many a number has, how far they spread with their spaces, and the writing of them.
 ghost use mathlib.Core.Path.{_≡_};
+ghost use mathlib.Core.Bool.{cond, _&&_};
 ghost use mathlib.Core.List.{_++_};
 ghost use Prim.Native.Nat.{_+_, _-_, _≤_};
+ghost use lib.Dec.{eqb};
 ghost use lib.ListN.{length, take, drop};
 ghost use lib.Seq.{sets};
-ghost use Rattle.numbers.specs.Digits.{gapped, gap, digits, digitCount};
+ghost use Rattle.numbers.specs.Digits.{digits, digitCount};
 ghost use Rattle.numbers.specs.Strings.{radix};
-ghost use Rattle.numbers.specs.Steps.{spreadOf};
+ghost use Rattle.numbers.specs.Steps.{spreadOf, gapBefore};
 use crate::forms::Base;
 
 // How many digits n has, zero having one.
 pub(crate) fn count_digits(base: Base, n: u32) -> usize
     ensures { λ r. ⌜ r ≡ digitCount (radix base) n ⌝ }
 {
-    let radix = base.radix() as u64;
+    match base {
+        Base::Two => count_by_powers(2, n),
+        Base::Ten => count_decimal(n),
+        Base::Sixteen => count_by_powers(16, n),
+    }
+}
+
+// The digits of n, power by power. A form may count in any base; the calls count in base ten only.
+fn count_by_powers(radix: u64, n: u32) -> usize
+    requires { ⌜ (2 ≤ radix) × (radix ≤ 16) ⌝ }
+    ensures { λ r. ⌜ r ≡ digitCount radix n ⌝ }
+{
     let wide = n as u64;
     let mut limit = radix;
     let mut count = 1;
@@ -24,16 +37,45 @@ pub(crate) fn count_digits(base: Base, n: u32) -> usize
     count
 }
 
-// Whether a space stands before the last `count` digits.
-fn gap_before(spaced: bool, count: usize) -> bool
-    ensures { λ r. ⌜ r ≡ gapped spaced count ⌝ }
+// The decimal digits of n: one, and one more for each power of ten that n reaches. There is no jump here that the processor could
+// guess wrong.
+pub(crate) fn count_decimal(n: u32) -> usize
+    ensures { λ r. ⌜ (r ≡ digitCount 10 n) × (r ≤ 10) ⌝ }
+{
+    let thousands = one_if(10 <= n) + one_if(100 <= n) + one_if(1000 <= n);
+    let millions = one_if(10000 <= n) + one_if(100000 <= n) + one_if(1000000 <= n);
+    let billions = one_if(10000000 <= n) + one_if(100000000 <= n) + one_if(1000000000 <= n);
+    1 + thousands + millions + billions
+}
+
+pub(crate) fn one_if(present: bool) -> usize
+    ensures { λ r. ⌜ (r ≡ cond present 1 0) × (r ≤ 1) ⌝ }
+{
+    if present {
+        return 1;
+    }
+    0
+}
+
+// Whether a space stands before the digits that are done: the group before which it would stand has `group` of them.
+fn gap_before(spaced: bool, group: usize) -> bool
+    ensures { λ r. ⌜ r ≡ (spaced && eqb group 3) ⌝ }
 {
     if spaced {
-        if 0 < count {
-            return count % 3 == 0;
-        }
+        return group == 3;
     }
     false
+}
+
+// One digit more: in the same group, or the first of the next one.
+fn next_in_group(group: usize) -> usize
+    requires { ⌜ group ≤ 3 ⌝ }
+    ensures { λ r. ⌜ r ≡ cond (eqb group 3) 1 (group + 1) ⌝ }
+{
+    if group == 3 {
+        return 1;
+    }
+    group + 1
 }
 
 // The room that `count` digits take with their spaces.
@@ -49,13 +91,13 @@ pub(crate) fn spread(spaced: bool, count: usize) -> usize
     count
 }
 
-// Writes the space before the last `count` digits, if there is one, so that it ends at `end`. The answer is where it starts.
-fn put_gap(spaced: bool, count: usize, end: usize, buf: &mut [u8]) -> usize
-    requires { ⌜ (length (gap spaced count) ≤ end) × (end ≤ length (now buf)) ⌝ }
-    ensures start { λ r. ⌜ r ≡ end - length (gap spaced count) ⌝ }
-    ensures buffer { λ r. ⌜ now (buf .exit) ≡ sets (now (buf .entry)) r (gap spaced count) ⌝ }
+// Writes the space before a group that is whole, so that it ends at `end`. The answer is where it starts.
+fn put_gap(spaced: bool, group: usize, end: usize, buf: &mut [u8]) -> usize
+    requires { ⌜ (length (gapBefore spaced group) ≤ end) × (end ≤ length (now buf)) ⌝ }
+    ensures start { λ r. ⌜ r ≡ end - length (gapBefore spaced group) ⌝ }
+    ensures buffer { λ r. ⌜ now (buf .exit) ≡ sets (now (buf .entry)) r (gapBefore spaced group) ⌝ }
 {
-    if !gap_before(spaced, count) {
+    if !gap_before(spaced, group) {
         return end;
     }
     let start = end - 1;
@@ -63,7 +105,8 @@ fn put_gap(spaced: bool, count: usize, end: usize, buf: &mut [u8]) -> usize
     start
 }
 
-// Writes the last `count` digits of n, from the right, so that they end at `end`.
+// Writes the last `count` digits of n, from the right, so that they end at `end`. The digits of a group are counted along, which is
+// quicker than a remainder for every digit.
 pub(crate) fn put_digits(base: Base, spaced: bool, count: usize, n: u32, end: usize, buf: &mut [u8])
     requires { ⌜ (spreadOf spaced count ≤ end) × (end ≤ length (now buf)) ⌝ }
     ensures { λ r. ⌜ now (buf .exit) ≡ take (end - spreadOf spaced count) (now (buf .entry)) ++ (digits (radix base) spaced count n ++ drop end (now (buf .entry))) ⌝ }
@@ -71,8 +114,10 @@ pub(crate) fn put_digits(base: Base, spaced: bool, count: usize, n: u32, end: us
     let mut rest = n;
     let mut at = end;
     let mut done = 0;
+    let mut group = 0;
     while done < count {
-        at = put_gap(spaced, done, at, buf);
+        at = put_gap(spaced, group, at, buf);
+        group = next_in_group(group);
         at -= 1;
         buf[at] = base.last_glyph(rest);
         rest = base.shrink(rest);

@@ -1,6 +1,6 @@
 // What a call writes: a form, and the size and sign of its string for a value.
 ghost use mathlib.Core.Path.{_≡_};
-ghost use Prim.Native.Nat.{_/_, _%_, _^_};
+ghost use Prim.Native.Nat.{ℕ, _/_, _%_, _^_, _≤_};
 ghost use Rattle.numbers.specs.Digits.{glyph};
 ghost use Rattle.numbers.specs.Strings.{radix, bits};
 
@@ -108,12 +108,14 @@ impl Width {
     pub fn low_bits(self, value: u32) -> u32
         ensures { λ r. ⌜ r ≡ value % 2 ^ bits self ⌝ }
     {
-        match self {
-            Width::Nibble => value % 16,
-            Width::Byte => value % 256,
-            Width::TwoBytes => value % 65536,
-            Width::ThreeBytes => value % 16777216,
-            Width::Word => value,
-        }
+        low_part(value, self.span())
     }
+}
+
+// What a division by a span leaves of a value. A span is a power of two, so a mask does it, with no jump that goes by the width.
+pub(crate) fn low_part(value: u32, span: u64) -> u32
+    requires { ⌜ ((k : ℕ) × (k ≤ 32) × (span ≡ 2 ^ k)) ⌝ }
+    ensures { λ r. ⌜ r ≡ value % span ⌝ }
+{
+    value & (span - 1) as u32
 }

@@ -1,23 +1,19 @@
-// The size of a string before it is written: its sign, its digits, the room that it takes.
+// What is written of a value: the number that its low bits stand for, and how many digits of it.
 ghost use mathlib.Core.Path.{_≡_};
-ghost use mathlib.Core.Bool.{_&&_, cond};
-ghost use Prim.Native.Nat.{_*_, _-_, _<_, _≤_, _^_};
+ghost use mathlib.Core.Bool.{true, _&&_, cond};
+ghost use Prim.Native.Nat.{_*_, _-_, _<_, _≤_};
 ghost use lib.Dec.{leb};
-ghost use Rattle.numbers.specs.Strings.{bits, magnitude, negative, count};
-ghost use Rattle.numbers.specs.Steps.{sizeOf};
+ghost use Rattle.numbers.specs.Strings.{count};
+ghost use Rattle.numbers.specs.Steps.{numberIn};
 use crate::digits::count_digits;
-use crate::digits::spread;
 use crate::forms::Form;
 use crate::forms::Width;
+use crate::forms::low_part;
 
-pub struct Size {
+pub struct Number {
     pub negative: bool,
+    // How far it is from 0.
     pub magnitude: u32,
-    pub count: usize,
-    // The characters, without a zero byte.
-    pub length: usize,
-    // The room, with it.
-    pub need: usize,
 }
 
 fn wide(n: u32) -> u64
@@ -26,27 +22,44 @@ fn wide(n: u32) -> u64
     n as u64
 }
 
-// Whether the used bits stand for a number below 0.
-fn is_negative(signed: bool, width: Width, used: u32) -> bool
-    ensures { λ r. ⌜ r ≡ (signed && leb (2 ^ bits width) (2 * used)) ⌝ }
+// Whether the used bits of a width stand for a number below 0.
+fn is_negative(signed: bool, span: u64, used: u32) -> bool
+    ensures { λ r. ⌜ r ≡ (signed && leb span (2 * used)) ⌝ }
 {
     if signed {
-        return width.span() <= 2 * wide(used);
+        return span <= 2 * wide(used);
     }
     false
 }
 
-// How far a number below 0 is from it. It is taken from the width's span, so that the lowest number is never negated in its
-// own width.
-fn below_zero(width: Width, used: u32) -> u32
-    requires { ⌜ (used < 2 ^ bits width) × (2 ^ bits width ≤ 2 * used) ⌝ }
-    ensures { λ r. ⌜ r ≡ 2 ^ bits width - used ⌝ }
+// How far the number is from 0. Below 0 that is taken from the width's span, so that the lowest number is never negated in its own
+// width.
+fn magnitude_of(negative: bool, span: u64, used: u32) -> u32
+    requires { ⌜ (used < span) × (negative ≡ true → span ≤ 2 * used) ⌝ }
+    ensures { λ r. ⌜ r ≡ cond negative (span - used) used ⌝ }
 {
-    (width.span() - wide(used)) as u32
+    if negative {
+        return (span - wide(used)) as u32;
+    }
+    used
+}
+
+// The number that the low bits of a value stand for.
+pub(crate) fn number_in(signed: bool, width: Width, value: u32) -> Number
+    ensures { λ r. ⌜ r ≡ numberIn signed width value ⌝ }
+{
+    let span = width.span();
+    let used = low_part(value, span);
+    let negative = is_negative(signed, span, used);
+    let magnitude = magnitude_of(negative, span, used);
+    Number {
+        negative,
+        magnitude,
+    }
 }
 
 // How many digits of n are written.
-fn digits_in(form: Form, n: u32) -> usize
+pub(crate) fn digits_in(form: Form, n: u32) -> usize
     ensures { λ r. ⌜ (r ≡ count form n) × (r ≤ 255) ⌝ }
 {
     let fixed = form.fixed;
@@ -55,43 +68,4 @@ fn digits_in(form: Form, n: u32) -> usize
         return count_digits(base, n);
     }
     fixed as usize
-}
-
-fn one_if(present: bool) -> usize
-    ensures { λ r. ⌜ (r ≡ cond present 1 0) × (r ≤ 1) ⌝ }
-{
-    if present {
-        return 1;
-    }
-    0
-}
-
-fn size_of(form: Form, negative: bool, magnitude: u32) -> Size
-    ensures { λ r. ⌜ r ≡ sizeOf form negative magnitude ⌝ }
-{
-    let count = digits_in(form, magnitude);
-    let spaced = form.spaced;
-    let terminated = form.terminated;
-    let length = one_if(negative) + spread(spaced, count);
-    let need = length + one_if(terminated);
-    Size {
-        negative,
-        magnitude,
-        count,
-        length,
-        need,
-    }
-}
-
-// The size of the string of `value` in a form.
-pub(crate) fn measure(form: Form, value: u32) -> Size
-    ensures { λ r. ⌜ r ≡ sizeOf form (negative form value) (magnitude form value) ⌝ }
-{
-    let width = form.width;
-    let signed = form.signed;
-    let used = width.low_bits(value);
-    if is_negative(signed, width, used) {
-        return size_of(form, true, below_zero(width, used));
-    }
-    size_of(form, false, used)
 }

@@ -14,15 +14,12 @@ returns c = below _ _ _ _ (c .if1 .taken) refl
 width-number-requires : tie.Need-width-number-requires
 width-number-requires c κs = search needs
 
-hex-form-requires : tie.Need-hex-form-requires
-hex-form-requires c κs = search needs
-
 returns-2 : tie.Need-returns-2
 unfolding ranged
 returns-2 c =
-    let n = c .before .before .before .before .args .c in
+    let n = c .before .before .before .args .c in
     not-below n 0xD0 _ _ (omega arith)
-    (below n 0xD5 _ _ (omega arith) (rw (c .hex-form .ensures, c .before .width-number .ensures)))
+    (below n 0xD5 _ _ (omega arith) (rw (c .width-number .ensures)))
 
 sub-width-number : tie.Need-sub-width-number
 sub-width-number c = search needs
@@ -30,16 +27,13 @@ sub-width-number c = search needs
 width-number-requires-2 : tie.Need-width-number-requires-2
 width-number-requires-2 c κs = search needs
 
-decimal-form-requires : tie.Need-decimal-form-requires
-decimal-form-requires c κs = search needs
-
 returns-3 : tie.Need-returns-3
 unfolding ranged
 returns-3 c =
-    let n = c .before .before .before .before .before .args .c in
+    let n = c .before .before .before .before .args .c in
     not-below n 0xD0 _ _ (omega arith)
     (not-below n 0xD5 _ _ (omega arith)
-    (below n 0xD9 _ _ (omega arith) (rw (c .decimal-form .ensures, c .before .width-number2 .ensures))))
+    (below n 0xD9 _ _ (omega arith) (rw (c .width-number2 .ensures))))
 
 sub-width-number-2 : tie.Need-sub-width-number-2
 sub-width-number-2 c = search needs
@@ -47,17 +41,14 @@ sub-width-number-2 c = search needs
 width-number-requires-3 : tie.Need-width-number-requires-3
 width-number-requires-3 c κs = search needs
 
-decimal-form-requires-2 : tie.Need-decimal-form-requires-2
-decimal-form-requires-2 c κs = search needs
-
 returns-4 : tie.Need-returns-4
 unfolding ranged
 returns-4 c =
-    let n = c .before .before .before .before .before .before .args .c in
+    let n = c .before .before .before .before .before .args .c in
     not-below n 0xD0 _ _ (omega arith)
     (not-below n 0xD5 _ _ (omega arith)
     (not-below n 0xD9 _ _ (omega arith)
-    (below n 0xDD _ _ (omega arith) (rw (c .decimal-form2 .ensures, c .before .width-number3 .ensures)))))
+    (below n 0xDD _ _ (omega arith) (rw (c .width-number3 .ensures)))))
 
 sub-width-number-3 : tie.Need-sub-width-number-3
 sub-width-number-3 c = search needs
@@ -65,18 +56,15 @@ sub-width-number-3 c = search needs
 width-number-requires-4 : tie.Need-width-number-requires-4
 width-number-requires-4 c κs = search needs
 
-binary-form-requires : tie.Need-binary-form-requires
-binary-form-requires c κs = search needs
-
 returns-5 : tie.Need-returns-5
 unfolding ranged
 returns-5 c =
-    let n = c .before .before .before .before .before .before .before .args .c in
+    let n = c .before .before .before .before .before .before .args .c in
     not-below n 0xD0 _ _ (omega arith)
     (not-below n 0xD5 _ _ (omega arith)
     (not-below n 0xD9 _ _ (omega arith)
     (not-below n 0xDD _ _ (omega arith)
-    (below n 0xE1 _ _ (omega arith) (rw (c .binary-form .ensures, c .before .width-number4 .ensures))))))
+    (below n 0xE1 _ _ (omega arith) (rw (c .width-number4 .ensures))))))
 
 sub-width-number-4 : tie.Need-sub-width-number-4
 sub-width-number-4 c = search needs
@@ -84,19 +72,16 @@ sub-width-number-4 c = search needs
 width-number-requires-5 : tie.Need-width-number-requires-5
 width-number-requires-5 c κs = search needs
 
-decimal-form-requires-3 : tie.Need-decimal-form-requires-3
-decimal-form-requires-3 c κs = search needs
-
 returns-6 : tie.Need-returns-6
 unfolding ranged
 returns-6 c =
-    let n = c .before .before .before .before .before .before .before .before .args .c in
+    let n = c .before .before .before .before .before .before .before .args .c in
     not-below n 0xD0 _ _ (omega arith)
     (not-below n 0xD5 _ _ (omega arith)
     (not-below n 0xD9 _ _ (omega arith)
     (not-below n 0xDD _ _ (omega arith)
     (not-below n 0xE1 _ _ (omega arith)
-    (below n 0xE5 _ _ (omega arith) (rw (c .decimal-form3 .ensures, c .before .width-number5 .ensures)))))))
+    (below n 0xE5 _ _ (omega arith) (rw (c .width-number5 .ensures)))))))
 
 sub-width-number-5 : tie.Need-sub-width-number-5
 sub-width-number-5 c = search needs
@@ -104,20 +89,17 @@ sub-width-number-5 c = search needs
 width-number-requires-6 : tie.Need-width-number-requires-6
 width-number-requires-6 c κs = search needs
 
-decimal-form-requires-4 : tie.Need-decimal-form-requires-4
-decimal-form-requires-4 c κs = search needs
-
 returns-7 : tie.Need-returns-7
 unfolding ranged
 returns-7 c =
-    let n = c .before .before .before .before .before .before .before .before .before .args .c in
+    let n = c .before .before .before .before .before .before .before .before .args .c in
     not-below n 0xD0 _ _ (omega arith)
     (not-below n 0xD5 _ _ (omega arith)
     (not-below n 0xD9 _ _ (omega arith)
     (not-below n 0xDD _ _ (omega arith)
     (not-below n 0xE1 _ _ (omega arith)
     (not-below n 0xE5 _ _ (omega arith)
-    (below n 0xE9 _ _ (omega arith) (rw (c .decimal-form4 .ensures, c .before .width-number6 .ensures))))))))
+    (below n 0xE9 _ _ (omega arith) (rw (c .width-number6 .ensures))))))))
 
 returns-8 : tie.Need-returns-8
 unfolding ranged
@@ -132,4 +114,25 @@ returns-8 c =
     (not-below n 0xE9 _ _ (omega arith) refl))))))
 
 pub in-range-spec : {M : Type 1} → statement M
-in-range-spec = tie.close (tie.spec returns width-number-requires hex-form-requires returns-2 sub-width-number width-number-requires-2 decimal-form-requires returns-3 sub-width-number-2 width-number-requires-3 decimal-form-requires-2 returns-4 sub-width-number-3 width-number-requires-4 binary-form-requires returns-5 sub-width-number-4 width-number-requires-5 decimal-form-requires-3 returns-6 sub-width-number-5 width-number-requires-6 decimal-form-requires-4 returns-7 returns-8)
+in-range-spec =
+    tie.close
+    (tie.spec
+    returns
+    width-number-requires
+    returns-2
+    sub-width-number
+    width-number-requires-2
+    returns-3
+    sub-width-number-2
+    width-number-requires-3
+    returns-4
+    sub-width-number-3
+    width-number-requires-4
+    returns-5
+    sub-width-number-4
+    width-number-requires-5
+    returns-6
+    sub-width-number-5
+    width-number-requires-6
+    returns-7
+    returns-8)

@@ -1,70 +1,45 @@
--- `count_digits` meets its contract. At the loop's head the limit is a power of the base, and what is left of the definition's
--- own walk starts there.
-use mathlib.Core.Path.{_≡_, refl, ap, sym, _∙_}
-use Prim.Native.Nat.{ℕ, suc, _+_, _-_, _*_, _^_, _≤_, _<_}
-use native.Mathlib.Nat.{pow-zero, pow-suc, one-mul, mul-le-mul, mul-le-mul-left}
-use native.Mathlib.Numerals.{add-one}
-use native.Mathlib.Omega.{arith}
+-- `count_digits` meets its contract, base by base.
 use borrow.Author.Needs.{needs}
-use Rattle.numbers.specs.Digits.{enough, digitCount}
-use Rattle.numbers.proofs.Laws.{radix-range, below-power, enough-here, enough-next}
 use Rattle.numbers.proofs.digits.count_digits.Statement.{statement}
 use Rattle.numbers.proofs.digits.count_digits.Tie as tie
-use Rattle.numbers.proofs.digits.count_digits.Reads as reads
-use Rattle.numbers.proofs.digits.count_digits.Lts as lts
-use Rattle.numbers.proofs.forms.Base.radix.Reads as radix-reads
 
-abbrev Inv-loop : tie.InvT-loop
-Inv-loop n radix wide limit₀ count₀ limit count =
-    (limit ≡ radix ^ count) × ((more : ℕ) × (count + more ≡ n + 1) × (enough radix n n 1 ≡ enough radix n more count))
+enum-told : tie.Need-enum-told
+enum-told c = search needs
 
-abbrev μ-loop : tie.MeasureT-loop
-μ-loop n radix wide limit₀ count₀ limit count = wide + 1 - limit
+count-by-powers-requires : tie.Need-count-by-powers-requires
+count-by-powers-requires c κs = search needs
 
-radix-requires : tie.Need-radix-requires Inv-loop μ-loop
-radix-requires c κs = search needs
+enum-told-2 : tie.Need-enum-told-2
+enum-told-2 c = search needs
 
-range : (c : tie.After-radix Inv-loop μ-loop) → (2 ≤ c .radix .result) × (c .radix .result ≤ 16)
-range c = rw (c .radix .ensures) (radix-range (c .before .args .base))
+count-decimal-requires : tie.Need-count-decimal-requires
+count-decimal-requires c κs = search needs
 
-cast-radix : tie.Need-cast-radix Inv-loop μ-loop
-cast-radix c = omega (arith, range c)
+enum-told-3 : tie.Need-enum-told-3
+enum-told-3 c = search needs
 
-first : (b : ℕ) → b ≡ b ^ 1
-first b = sym (pow-suc b 0 ∙ ap (λ p. p * b) (pow-zero b) ∙ one-mul b)
+count-by-powers-requires-2 : tie.Need-count-by-powers-requires-2
+count-by-powers-requires-2 c κs = search needs
 
-loop-holds : tie.Need-loop-holds Inv-loop μ-loop
-loop-holds c = (first (c .radix .result), (c .before .args .n, omega arith, refl))
+returns : tie.Need-returns
+returns c = rw (c .before .enum-told .given .1) (c .count-by-powers .ensures)
 
-mul-limit : tie.Need-mul-limit Inv-loop μ-loop
-mul-limit c = omega (arith, range (c .before .before), mul-le-mul (c .loop-test .taken) (range (c .before .before) .1))
+returns-2 : tie.Need-returns-2
+returns-2 c = rw (c .before .enum-told2 .given .1) (c .count-decimal .ensures .0)
 
-add-count : tie.Need-add-count Inv-loop μ-loop
-add-count c = omega arith
-
-loop-less : tie.Need-loop-less Inv-loop μ-loop
-loop-less c =
-    let b = c .before .before .radix .result in
-    let two : 2 ≤ b = range (c .before .before) .0 in
-    omega (arith, below-power b (c .before .loop .count) two, mul-le-mul-left (c .before .loop .limit) two)
-
-loop-again : tie.Need-loop-again Inv-loop μ-loop
-loop-again c =
-    let b = c .before .before .radix .result in
-    let inv = c .before .loop .inv in
-    let low : b ^ c .before .loop .count ≤ c .before .before .before .args .n = omega arith in
-    let next = enough-next b _ (inv .1 .0) _ (range (c .before .before) .0) low (inv .1 .1) in
-    (rw (inv .0, add-one, pow-suc), (next .0, next .1, inv .1 .2 ∙ next .2))
-
-returns : tie.Need-returns Inv-loop μ-loop
-returns c =
-    let inv = c .before .loop .inv in
-    let n = c .before .before .before .args .n in
-    let b = c .before .before .radix .result in
-    let high : n < b ^ c .before .loop .count = omega arith in
-    sym (inv .1 .2 ∙ enough-here b n (inv .1 .0) _ high) ∙ ap (λ b. digitCount b n) (c .before .before .radix .ensures)
+returns-3 : tie.Need-returns-3
+returns-3 c = rw (c .before .enum-told3 .given .1) (c .count-by-powers2 .ensures)
 
 pub count-digits-spec : {M : Type 1} → statement M
 count-digits-spec =
     tie.close
-    (tie.spec Inv-loop μ-loop radix-requires cast-radix loop-holds mul-limit add-count loop-less loop-again returns)
+    (tie.spec
+    enum-told
+    count-by-powers-requires
+    enum-told-2
+    count-decimal-requires
+    enum-told-3
+    count-by-powers-requires-2
+    returns
+    returns-2
+    returns-3)

@@ -1,38 +1,22 @@
--- `low_bits` meets its contract, width by width.
+-- `low_bits` meets its contract: a width's span is a power of two.
+use mathlib.Core.Path.{ap, _∙_}
+use Prim.Native.Nat.{_%_}
 use borrow.Author.Needs.{needs}
-use native.Mathlib.Omega.{arith}
+use Rattle.numbers.specs.Strings.{bits}
+use Rattle.numbers.proofs.Bounds.{bits-range}
 use Rattle.numbers.proofs.forms.Width.low_bits.Statement.{statement}
 use Rattle.numbers.proofs.forms.Width.low_bits.Tie as tie
 
-enum-told : tie.Need-enum-told
-enum-told c = search needs
+span-requires : tie.Need-span-requires
+span-requires c κs = search needs
 
-enum-told-2 : tie.Need-enum-told-2
-enum-told-2 c = search needs
-
-enum-told-3 : tie.Need-enum-told-3
-enum-told-3 c = search needs
-
-enum-told-4 : tie.Need-enum-told-4
-enum-told-4 c = search needs
-
-enum-told-5 : tie.Need-enum-told-5
-enum-told-5 c = search needs
+low-part-requires : tie.Need-low-part-requires
+low-part-requires c κs =
+    let width = c .before .args .self in
+    (bits width, bits-range width .1, c .span .ensures)
 
 returns : tie.Need-returns
-returns c = rw (c .enum-told .given .1)
-
-returns-2 : tie.Need-returns-2
-returns-2 c = rw (c .enum-told2 .given .1)
-
-returns-3 : tie.Need-returns-3
-returns-3 c = rw (c .enum-told3 .given .1)
-
-returns-4 : tie.Need-returns-4
-returns-4 c = rw (c .enum-told4 .given .1)
-
-returns-5 : tie.Need-returns-5
-returns-5 c = rw (c .enum-told5 .given .1) (omega arith)
+returns c = c .low-part .ensures ∙ ap (λ s. c .before .before .args .value % s) (c .before .span .ensures)
 
 pub low-bits-spec : {M : Type 1} → statement M
-low-bits-spec = tie.close (tie.spec enum-told enum-told-2 enum-told-3 enum-told-4 enum-told-5 returns returns-2 returns-3 returns-4 returns-5)
+low-bits-spec = tie.close (tie.spec span-requires low-part-requires returns)

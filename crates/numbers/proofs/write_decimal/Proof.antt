@@ -1,0 +1,31 @@
+-- `write_decimal` meets its contract: it writes its form's parts.
+use borrow.Author.Needs.{needs}
+use Rattle.numbers.specs.Calls.{decimal}
+use Rattle.numbers.proofs.Parts.{converted}
+use Rattle.numbers.proofs.write_decimal.Statement.{statement}
+use Rattle.numbers.proofs.write_decimal.Tie as tie
+
+number-in-requires : tie.Need-number-in-requires
+number-in-requires c κs = search needs
+
+count-decimal-requires : tie.Need-count-decimal-requires
+count-decimal-requires c κs = search needs
+
+write-number-requires : tie.Need-write-number-requires
+write-number-requires c κs = search needs
+
+same-length : tie.Need-same-length
+same-length c = search needs
+
+returns : tie.Need-returns
+returns c =
+    let a = c .before .before .before .before .before .before .before .args in
+    let number = c .before .before .before .before .before .number-in in
+    let digits = c .before .before .before .before .count-decimal in
+    converted (decimal (a .signed) (a .spaced) (a .width)) (a .value) (number .result) (digits .result) (number .ensures) (digits .ensures .0)
+    (a .buf .now) (c .before .before .write-number .ensures)
+
+pub write-decimal-spec : {M : Type 1} → statement M
+write-decimal-spec =
+    tie.close
+    (tie.spec number-in-requires count-decimal-requires write-number-requires same-length returns)
