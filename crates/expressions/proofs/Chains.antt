@@ -10,13 +10,13 @@ use Rattle.paper.specs.Refusals.{zero-divisor}
 use Rattle.paper.specs.Traces.{Run, finished, stopped, run, ended}
 use Rattle.paper.proofs.Choice.{either}
 use Rattle.variables.specs.Names.{Meaning}
-use Rattle.expressions.specs.Operators.{divides}
+use Rattle.arithmetic.specs.Operators.{divides}
 use Rattle.expressions.specs.Tokens.{tokenAt}
 use Rattle.expressions.specs.Trees.{Tree, Parsed, tree, wrong, bindingBy, binding, joined, extended, following, levelAt, operandAt}
-use Rattle.expressions.specs.Values.{binaryValue}
+use Rattle.arithmetic.specs.Values.{binaryValue}
 use Rattle.expressions.specs.Evaluations.{valueOf, steps}
 use Rattle.expressions.specs.Steps.{partBy, partOf, accountOf, appliedPart, joinedPart, behindPart}
-use Rattle.expressions.specs.declared.operators.Operator.{Operator}
+use Rattle.arithmetic.specs.declared.operators.Operator.{Operator}
 use Rattle.expressions.specs.declared.levels.Behind.{Behind}
 use Rattle.expressions.specs.declared.levels.Behind.the-variants.{Binds, Other}
 use Rattle.expressions.specs.declared.parts.Account.{Account}

@@ -8,14 +8,14 @@ use Rattle.paper.specs.Refusals.{zero-divisor}
 use Rattle.paper.specs.Traces.{Trace, Run, finished, stopped, run, ended as end-at, refused}
 use Rattle.paper.specs.declared.faults.Fault.the-variants.{ZeroDivisor}
 use Rattle.variables.specs.Names.{Meaning, unknown, string-of, integer-of, macro-of}
-use Rattle.expressions.specs.Operators.{divides}
+use Rattle.arithmetic.specs.Operators.{divides}
 use Rattle.expressions.specs.Tokens.{tokenAt}
 use Rattle.expressions.specs.Trees.{Tree, constant, variable, unary, binary, Parsed, tree, wrong, binding, joined, covered, closedBy, wholeBy, closed, ended}
-use Rattle.expressions.specs.Values.{binaryValue}
+use Rattle.arithmetic.specs.Values.{binaryValue}
 use Rattle.expressions.specs.Evaluations.{named, divided, valueOf, steps, evaluation, result}
 use Rattle.expressions.specs.Answers.{evaluatedBy}
 use Rattle.expressions.specs.Steps.{partBy, partOf, accountOf, movedTo, coveredPart, appliedPart, joinedPart, behindPart, closedPartBy, closedPart, endedPartBy, endedPart, answerOf}
-use Rattle.expressions.specs.declared.operators.Operator.{Operator}
+use Rattle.arithmetic.specs.declared.operators.Operator.{Operator}
 use Rattle.expressions.specs.declared.tokens.Lexed.{Lexed}
 use Rattle.expressions.specs.declared.tokens.Token.{Token}
 use Rattle.expressions.specs.declared.tokens.Token.the-variants.{End, Operator as Operates, Number, BadNumber, Name, Open as Bracket, Close, Strange}

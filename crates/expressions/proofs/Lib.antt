@@ -1,5 +1,4 @@
 -- Laws that several proofs cite.
-pub mod Signs
 pub mod Laws
 pub mod Places
 pub mod Onward

@@ -27,13 +27,13 @@ use Rattle.variables.specs.Names.{Meaning, unknown, string-of, integer-of, macr
 use Rattle.variables.specs.declared.Checked.{Checked}
 use Rattle.variables.specs.declared.Checked.the-variants.{Good, Refused as Unsound}
 use Rattle.variables.proofs.Bounds.{Bounded as Checks, checked-bounded}
-use Rattle.expressions.specs.Operators.{levelOf, loosest, standsAlone, divides}
+use Rattle.arithmetic.specs.Operators.{levelOf, loosest, standsAlone, divides}
 use Rattle.expressions.specs.Tokens.{letter, wordToken, faultOf, numberBy, single, fromLess, fromGreater, symbolAt, numeral, startingAt, tokenAt}
 use Rattle.expressions.specs.Trees.{Tree, constant, variable, unary, binary, Parsed, tree, wrong, bindingBy, binding, joined, covered, extended, closedBy, wholeBy, Deeper, following, levelAt, closed, operandBy, deepest, oneDeeper, startedIn, operandAt, ended, whole}
 use Rattle.expressions.specs.Evaluations.{named, divided, valueOf, steps, evaluation}
 use Rattle.expressions.specs.Answers.{readingOf, valueIn, evaluatedBy, evaluatedOver, evaluated, numberOf, placeOf, metNumbers, evaluateNumbers}
 use Rattle.expressions.specs.declared.Evaluated.{Evaluated}
-use Rattle.expressions.specs.declared.operators.Operator.{Operator}
+use Rattle.arithmetic.specs.declared.operators.Operator.{Operator}
 use Rattle.expressions.specs.declared.tokens.Lexed.{Lexed}
 use Rattle.expressions.specs.declared.tokens.Token.{Token}
 use Rattle.expressions.specs.declared.tokens.Token.the-variants.{End, Operator as Operates, Number, BadNumber, Name, Open, Close, Strange}

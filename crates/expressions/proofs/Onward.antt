@@ -8,10 +8,10 @@ use lib.Dec.{eqb}
 use lib.ListN.{length}
 use Rattle.paper.specs.declared.faults.Fault.{Fault}
 use Rattle.paper.proofs.Choice.{either}
-use Rattle.expressions.specs.Operators.{levelOf, loosest, standsAlone}
+use Rattle.arithmetic.specs.Operators.{levelOf, loosest, standsAlone}
 use Rattle.expressions.specs.Tokens.{tokenAt}
 use Rattle.expressions.specs.Trees.{Tree, Parsed, tree, wrong, bindingBy, binding, joined, covered, extended, closedBy, Deeper, following, levelAt, closed, operandBy, deepest, oneDeeper, startedIn, operandAt}
-use Rattle.expressions.specs.declared.operators.Operator.{Operator}
+use Rattle.arithmetic.specs.declared.operators.Operator.{Operator}
 use Rattle.expressions.specs.declared.tokens.Token.{Token}
 use Rattle.expressions.specs.declared.tokens.Token.the-variants.{End, Operator as Operates, Number, BadNumber, Name, Open, Close, Strange}
 use Rattle.expressions.specs.declared.levels.Behind.{Behind}

@@ -7,11 +7,11 @@ use native.Mathlib.Omega.{arith}
 use Rattle.paper.specs.declared.faults.Fault.the-variants.{TooDeep, BadExpression}
 use Rattle.paper.proofs.Choice.{hit, skip}
 use Rattle.variables.specs.Names.{Meaning}
-use Rattle.expressions.specs.Operators.{loosest, standsAlone}
+use Rattle.arithmetic.specs.Operators.{loosest, standsAlone}
 use Rattle.expressions.specs.Tokens.{tokenAt}
 use Rattle.expressions.specs.Trees.{Parsed, tree, wrong, covered, Deeper, levelAt, closed, operandBy, deepest, oneDeeper, operandAt}
 use Rattle.expressions.specs.Steps.{partOf, coveredPart, closedPart}
-use Rattle.expressions.specs.declared.operators.Operator.{Operator}
+use Rattle.arithmetic.specs.declared.operators.Operator.{Operator}
 use Rattle.expressions.specs.declared.tokens.Lexed.{Lexed}
 use Rattle.expressions.specs.declared.tokens.Token.{Token}
 use Rattle.expressions.specs.declared.tokens.Token.the-variants.{Operator as Operates, Name, Open}

@@ -12,7 +12,7 @@ use Rattle.variables.specs.Tables.{checked, checkNumbers}
 use Rattle.variables.specs.declared.Checked.{Checked}
 use Rattle.variables.specs.declared.Checked.the-variants.{Good, Refused as Unsound}
 use Rattle.expressions.specs.Trees.{whole}
-use Rattle.expressions.specs.Values.{signed}
+use Rattle.arithmetic.specs.Values.{signed}
 use Rattle.expressions.specs.Evaluations.{evaluation, result}
 use Rattle.expressions.specs.declared.Evaluated.{Evaluated}
 use Rattle.expressions.specs.declared.Evaluated.the-variants.{Value, Refused, BadTable}

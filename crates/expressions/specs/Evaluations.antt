@@ -7,10 +7,10 @@ use lib.Dec.{eqb}
 use Rattle.paper.specs.Traces.{Trace, ended, refused, asks, spends}
 use Rattle.paper.specs.declared.faults.Fault.the-variants.{UnknownName, ZeroDivisor, NotAnInteger}
 use Rattle.variables.specs.Names.{Meaning, unknown, string-of, integer-of, macro-of}
-use Rattle.expressions.specs.Operators.{divides}
+use Rattle.arithmetic.specs.Operators.{divides}
 use Rattle.expressions.specs.Trees.{Tree, constant, variable, unary, binary, Parsed, tree, wrong}
-use Rattle.expressions.specs.Values.{unaryValue, binaryValue}
-use Rattle.expressions.specs.declared.operators.Operator.{Operator}
+use Rattle.arithmetic.specs.Values.{unaryValue, binaryValue}
+use Rattle.arithmetic.specs.declared.operators.Operator.{Operator}
 
 -- an integer variable's pattern; 0 for any other name, which is refused
 abbrev pub integerOf : Meaning → ℕ

@@ -7,17 +7,17 @@ use Rattle.paper.specs.Refusals.{zero-divisor}
 use Rattle.paper.specs.declared.faults.Fault.the-variants.{BadExpression}
 use Rattle.paper.specs.Traces.{numberOf, Run, finished, stopped, run, ended}
 use Rattle.variables.specs.Names.{Meaning}
-use Rattle.expressions.specs.Operators.{divides}
+use Rattle.arithmetic.specs.Operators.{divides}
 use Rattle.expressions.specs.Tokens.{tokenAt}
 use Rattle.expressions.specs.Trees.{Parsed, tree, wrong, binding}
-use Rattle.expressions.specs.Values.{unaryValue, binaryValue}
+use Rattle.arithmetic.specs.Values.{unaryValue, binaryValue}
 use Rattle.expressions.specs.Evaluations.{valueOf, steps}
 use Rattle.expressions.specs.Answers.{refusedAt}
 use Rattle.expressions.specs.declared.Evaluated.{Evaluated}
 use Rattle.expressions.specs.declared.Evaluated.the-variants.{Value as Valued}
 use Rattle.expressions.specs.declared.tokens.Token.{Token}
 use Rattle.expressions.specs.declared.tokens.Token.the-variants.{End, Operator as Operates, Number, BadNumber, Name, Open as Bracket, Close, Strange}
-use Rattle.expressions.specs.declared.operators.Operator.{Operator}
+use Rattle.arithmetic.specs.declared.operators.Operator.{Operator}
 use Rattle.expressions.specs.declared.levels.Behind.{Behind}
 use Rattle.expressions.specs.declared.levels.Behind.the-variants.{Binds, Other}
 use Rattle.expressions.specs.declared.parts.Account.{Account}

@@ -13,12 +13,12 @@ use Rattle.reader.specs.Reading.{reading}
 use Rattle.reader.specs.declared.Reading.{Reading}
 use Rattle.reader.specs.declared.Reading.the-variants.{Value, Refused}
 use Rattle.variables.specs.Records.{sameBytes}
-use Rattle.expressions.specs.declared.operators.Operator.{Operator}
-use Rattle.expressions.specs.declared.operators.Operator.the-variants.{Not, Product, Sum, Relation, And, Either}
-use Rattle.expressions.specs.declared.operators.Product.the-variants.{Times, Over, Mod}
-use Rattle.expressions.specs.declared.operators.Sum.the-variants.{Plus, Minus}
-use Rattle.expressions.specs.declared.operators.Relation.the-variants.{Equal, Unequal, Less, Greater, AtMost, AtLeast, ShiftLeft, ShiftRight, ShiftRightUnsigned}
-use Rattle.expressions.specs.declared.operators.Either.the-variants.{Or, Eor}
+use Rattle.arithmetic.specs.declared.operators.Operator.{Operator}
+use Rattle.arithmetic.specs.declared.operators.Operator.the-variants.{Not, Product, Sum, Relation, And, Either}
+use Rattle.arithmetic.specs.declared.operators.Product.the-variants.{Times, Over, Mod}
+use Rattle.arithmetic.specs.declared.operators.Sum.the-variants.{Plus, Minus}
+use Rattle.arithmetic.specs.declared.operators.Relation.the-variants.{Equal, Unequal, Less, Greater, AtMost, AtLeast, ShiftLeft, ShiftRight, ShiftRightUnsigned}
+use Rattle.arithmetic.specs.declared.operators.Either.the-variants.{Or, Eor}
 use Rattle.expressions.specs.declared.tokens.Token.{Token}
 use Rattle.expressions.specs.declared.tokens.Token.the-variants.{End, Operator as Operates, Number, BadNumber, Name, Open, Close, Strange}
 use Rattle.expressions.specs.declared.tokens.Lexed.{Lexed}

@@ -6,9 +6,9 @@ use lib.Dec.{eqb}
 use lib.ListN.{length, take, drop}
 use Rattle.paper.specs.declared.faults.Fault.{Fault}
 use Rattle.paper.specs.declared.faults.Fault.the-variants.{TooDeep, BadExpression}
-use Rattle.expressions.specs.Operators.{levelOf, loosest, standsAlone}
+use Rattle.arithmetic.specs.Operators.{levelOf, loosest, standsAlone}
 use Rattle.expressions.specs.Tokens.{tokenAt}
-use Rattle.expressions.specs.declared.operators.Operator.{Operator}
+use Rattle.arithmetic.specs.declared.operators.Operator.{Operator}
 use Rattle.expressions.specs.declared.tokens.Token.{Token}
 use Rattle.expressions.specs.declared.tokens.Token.the-variants.{End, Operator as Operates, Number, BadNumber, Name, Open, Close, Strange}
 use Rattle.expressions.specs.declared.tokens.Lexed.{Lexed}

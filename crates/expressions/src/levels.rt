@@ -8,13 +8,13 @@ ghost use Rattle.expressions.specs.Trees.{binding, levelAt, operandAt};
 ghost use Rattle.expressions.specs.Steps.{partOf, behindPart, closedPartBy, closedPart, endedPartBy, endedPart};
 ghost use Rattle.expressions.specs.declared.parts.Part.the-variants as Part;
 ghost use Rattle.paper.specs.declared.faults.Fault.the-variants as Fault;
-use crate::operators::Operator;
 use crate::parts;
 use crate::parts::Account;
 use crate::parts::Part;
 use crate::tokens;
 use crate::tokens::Lexed;
 use crate::tokens::Token;
+use arithmetic::operators::Operator;
 use paper::faults::Fault;
 
 // What stands behind an operand: an operator of the level that asks, with its place and the place behind it, or anything else.

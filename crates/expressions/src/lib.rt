@@ -8,10 +8,8 @@ ghost use Rattle.expressions.specs.Answers.{readingOf, valueIn, refusedA
 ghost use Rattle.expressions.specs.Steps.{answerOf};
 
 mod levels;
-pub mod operators;
 mod parts;
 pub mod tokens;
-mod values;
 
 use paper::LONGEST;
 use paper::OVER_LENGTH;

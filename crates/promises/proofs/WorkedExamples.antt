@@ -28,7 +28,7 @@ use Rattle.gs.specs.Translations as Translations
 use Rattle.gs.specs.Translations.{readingOf, leftBy, translated, outAfter}
 use Rattle.expressions.specs.Tokens.{wordByte, wordToken, faultOf, single, fromLess, fromGreater, symbolAt as signAt, startingAt}
 use Rattle.expressions.specs.Trees.{following as chained, operandAt, whole as entireTree}
-use Rattle.expressions.specs.Values.{signed, sum, difference, product, quotient, remainder}
+use Rattle.arithmetic.specs.Values.{signed, sum, difference, product, quotient, remainder}
 use Rattle.expressions.specs.Evaluations.{divided}
 use Rattle.expressions.specs.Answers as Answers
 use Rattle.expressions.specs.Answers.{evaluated}

@@ -4,7 +4,7 @@ use mathlib.Core.Path.{_≡_, ap, _∙_}
 use Prim.Native.Nat.{ℕ}
 use Rattle.paper.specs.Traces.{run}
 use Rattle.variables.specs.Names.{namesOf}
-use Rattle.expressions.specs.Operators.{loosest}
+use Rattle.arithmetic.specs.Operators.{loosest}
 use Rattle.expressions.specs.Trees.{levelAt, operandAt, ended, whole}
 use Rattle.expressions.specs.Answers.{readingOf, valueIn, evaluatedBy}
 use Rattle.expressions.specs.Steps.{partOf, endedPart, answerOf}

@@ -37,7 +37,7 @@ use Rattle.expressions.proofs.levels.bad.Reads as bad-reads
 use Rattle.expressions.proofs.levels.too_deep.Reads as too-deep-reads
 use Rattle.expressions.proofs.levels.closed.Reads as closed-reads
 use Rattle.expressions.proofs.levels.operator_behind.Reads as operator-behind-reads
-use Rattle.expressions.proofs.operators.Operator.stands_alone.Reads as stands-alone-reads
+use Rattle.arithmetic.proofs.operators.Operator.stands_alone.Reads as stands-alone-reads
 use Rattle.expressions.proofs.parts.account_of.Reads as account-of-reads
 use Rattle.expressions.proofs.parts.covered.Reads as covered-reads
 use Rattle.expressions.proofs.parts.joined.Reads as joined-reads

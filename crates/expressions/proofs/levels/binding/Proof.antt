@@ -5,9 +5,9 @@ use Prim.Native.Nat.{ℕ}
 use denote.Enum.Declared.{tagOf}
 use types.Run.{OneOf, miss}
 use Rattle.paper.proofs.Choice.{same, other}
-use Rattle.expressions.specs.Operators.{levelOf}
+use Rattle.arithmetic.specs.Operators.{levelOf}
 use Rattle.expressions.specs.Trees.{bindingBy}
-use Rattle.expressions.specs.declared.operators.Operator.{Operator}
+use Rattle.arithmetic.specs.declared.operators.Operator.{Operator}
 use Rattle.expressions.specs.declared.tokens.Token.{Token}
 use Rattle.expressions.specs.declared.tokens.Token.the-variants.{End, Operator as Operates, Number, BadNumber, Name, Open, Close, Strange}
 use Rattle.expressions.specs.declared.levels.Behind.{Behind}

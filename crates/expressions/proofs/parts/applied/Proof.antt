@@ -5,10 +5,10 @@ use Prim.Native.Nat.{ℕ}
 use lib.Dec.{eqb}
 use Rattle.paper.specs.Refusals.{zero-divisor}
 use Rattle.paper.proofs.Choice.{hit, skip}
-use Rattle.expressions.specs.Operators.{divides}
-use Rattle.expressions.specs.Values.{binaryValue}
+use Rattle.arithmetic.specs.Operators.{divides}
+use Rattle.arithmetic.specs.Values.{binaryValue}
 use Rattle.expressions.specs.Steps.{appliedPart}
-use Rattle.expressions.specs.declared.operators.Operator.{Operator}
+use Rattle.arithmetic.specs.declared.operators.Operator.{Operator}
 use Rattle.expressions.specs.declared.parts.Part.the-variants.{Value, Refused}
 use borrow.Author.Needs.{needs}
 use Rattle.expressions.proofs.parts.applied.Statement.{statement}

@@ -1,0 +1,49 @@
+-- `less` meets its contract: patterns with the half added to them, modulo 2 to the 32, are in the order of their numbers.
+use borrow.Author.Needs.{needs}
+use mathlib.Core.Path.{_≡_, refl, sym, ap₂, _∙_}
+use mathlib.Core.Bool.{Bool, true, false}
+use Prim.Native.Nat.{ℕ, _-_, _≤_, _<_}
+use native.Mathlib.Omega.{arith}
+use lib.Dec.{ltb}
+use lib.IntN.{pos, negsuc}
+use lib.Signed.{ltZ}
+use borrow.Author.Tests.{lt-ltb, le-ltb, ltb-true, ltb-false}
+use Rattle.arithmetic.specs.Values.{signed, sum, less}
+use Rattle.arithmetic.proofs.Signs.{by-sign}
+use Rattle.arithmetic.proofs.values.less.Statement.{statement}
+use Rattle.arithmetic.proofs.values.less.Tie as tie
+
+raised-requires : tie.Need-raised-requires
+raised-requires c κs = search needs
+
+raised-requires-2 : tie.Need-raised-requires-2
+raised-requires-2 c κs = search needs
+
+alike : (a b c d : ℕ) → (a < b → c < d) → (b ≤ a → d ≤ c) → ltb a b ≡ ltb c d
+alike a b c d f g = go (ltb a b) refl
+  where
+    go : (t : Bool) → ltb a b ≡ t → t ≡ ltb c d
+    go true e = sym (lt-ltb c d (f (ltb-true a b e)))
+    go false e = sym (le-ltb c d (g (ltb-false a b e)))
+
+abbrev up : ℕ → ℕ
+up v = sum v 2147483648
+
+ordered : (l r : ℕ) → l < 4294967296 → r < 4294967296 → ltb (up l) (up r) ≡ less l r
+unfolding sum less
+ordered l r fits fits′ =
+    by-sign (λ z. ltb (up l) (up r) ≡ ltZ z (signed r)) l
+    (λ h. by-sign (λ z. ltb (up l) (up r) ≡ ltZ (pos l) z) r
+    (λ k. alike (up l) (up r) l r (λ o. omega arith) (λ o. omega arith))
+    (λ k. le-ltb (up l) (up r) (omega arith)))
+    (λ h. by-sign (λ z. ltb (up l) (up r) ≡ ltZ (negsuc (4294967295 - l)) z) r
+    (λ k. lt-ltb (up l) (up r) (omega arith))
+    (λ k. alike (up l) (up r) (4294967295 - r) (4294967295 - l) (λ o. omega arith) (λ o. omega arith)))
+
+returns : tie.Need-returns
+returns c =
+    let a = c .before .before .args in
+    ap₂ ltb (c .before .raised .ensures) (c .raised2 .ensures) ∙ ordered (a .l) (a .r) (omega arith) (omega arith)
+
+pub less-spec : {M : Type 1} → statement M
+less-spec = tie.close (tie.spec raised-requires raised-requires-2 returns)

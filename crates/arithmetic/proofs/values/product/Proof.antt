@@ -1,0 +1,25 @@
+-- `product` meets its contract: the product of two patterns fits 64 bits.
+use borrow.Author.Needs.{needs}
+use Prim.Native.Nat.{_≤_}
+use mathlib.Core.Path.{refl}
+use native.Mathlib.Nat.{mul-le-mul}
+use native.Mathlib.Omega.{arith}
+use Rattle.arithmetic.specs.Values.{product}
+use Rattle.arithmetic.proofs.values.product.Statement.{statement}
+use Rattle.arithmetic.proofs.values.product.Tie as tie
+
+mul-result : tie.Need-mul-result
+mul-result c =
+    let l : c .args .l ≤ 4294967295 = omega arith in
+    let r : c .args .r ≤ 4294967295 = omega arith in
+    omega (arith, mul-le-mul l r)
+
+cast-result : tie.Need-cast-result
+cast-result c = search needs
+
+returns : tie.Need-returns
+unfolding product
+returns c = refl
+
+pub product-spec : {M : Type 1} → statement M
+product-spec = tie.close (tie.spec mul-result cast-result returns)

@@ -1,0 +1,95 @@
+-- Values: signed 32-bit numbers as their patterns, and what each operator makes of them.
+use mathlib.Core.Bool.{Bool, not, cond}
+use Prim.Native.Nat.{ℕ, _+_, _-_, _*_, _/_, _%_, _^_}
+use lib.Bits.{bitAnd, bitOr, bitXor}
+use lib.Dec.{ltb, eqb}
+use lib.IntN.{ℤ, pos, negsuc}
+use lib.Signed.{ltZ, leZ, quotZ, remZ, shrZ}
+use Rattle.arithmetic.specs.declared.operators.Operator.{Operator}
+use Rattle.arithmetic.specs.declared.operators.Operator.the-variants.{Not, Product, Sum, Relation, And, Either}
+use Rattle.arithmetic.specs.declared.operators.Product.the-variants.{Times, Over, Mod}
+use Rattle.arithmetic.specs.declared.operators.Sum.the-variants.{Plus, Minus}
+use Rattle.arithmetic.specs.declared.operators.Relation.{Relation as Related}
+use Rattle.arithmetic.specs.declared.operators.Relation.the-variants.{Equal, Unequal, Less, Greater, AtMost, AtLeast, ShiftLeft, ShiftRight, ShiftRightUnsigned}
+use Rattle.arithmetic.specs.declared.operators.Either.the-variants.{Or, Eor}
+
+-- the number that a pattern stands for, in two's complement
+unfoldable pub signed : ℕ → ℤ
+signed pattern = cond (ltb pattern 2147483648) (pos pattern) (negsuc (4294967295 - pattern))
+
+-- the pattern of a number, modulo 2 to the 32
+abbrev pub wrapped : ℤ → ℕ
+wrapped (pos n) = n % 4294967296
+wrapped (negsuc n) = 4294967295 - n % 4294967296
+
+-- sums, differences and products are taken modulo 2 to the 32
+unfoldable pub sum : ℕ → ℕ → ℕ
+sum l r = (l + r) % 4294967296
+
+unfoldable pub difference : ℕ → ℕ → ℕ
+difference l r = (l + (4294967296 - r)) % 4294967296
+
+unfoldable pub product : ℕ → ℕ → ℕ
+product l r = l * r % 4294967296
+
+-- division drops the fraction toward zero; the lowest number over -1 gives itself
+unfoldable pub quotient : ℕ → ℕ → ℕ
+quotient l r = wrapped (quotZ (signed l) (signed r))
+
+-- MOD takes the sign of the left side
+unfoldable pub remainder : ℕ → ℕ → ℕ
+remainder l r = wrapped (remZ (signed l) (signed r))
+
+-- comparisons are signed and give -1 or 0
+abbrev pub truth : Bool → ℕ
+truth holds = cond holds 4294967295 0
+
+unfoldable pub less : ℕ → ℕ → Bool
+less l r = ltZ (signed l) (signed r)
+
+unfoldable pub atMost : ℕ → ℕ → Bool
+atMost l r = leZ (signed l) (signed r)
+
+-- shift amounts are unsigned; 32 or more gives 0, for >> of a negative -1
+unfoldable pub shiftedLeft : ℕ → ℕ → ℕ
+shiftedLeft v by = cond (ltb by 32) (v * 2 ^ by % 4294967296) 0
+
+unfoldable pub shiftedRight : ℕ → ℕ → ℕ
+shiftedRight v by = cond (ltb by 32) (wrapped (shrZ (signed v) (2 ^ by))) (truth (ltZ (signed v) (pos 0)))
+
+unfoldable pub shiftedRightUnsigned : ℕ → ℕ → ℕ
+shiftedRightUnsigned v by = cond (ltb by 32) (v / 2 ^ by) 0
+
+abbrev pub related : Related → ℕ → ℕ → ℕ
+related Equal l r = truth (eqb l r)
+related Unequal l r = truth (not (eqb l r))
+related Less l r = truth (less l r)
+related Greater l r = truth (less r l)
+related AtMost l r = truth (atMost l r)
+related AtLeast l r = truth (atMost r l)
+related ShiftLeft l r = shiftedLeft l r
+related ShiftRight l r = shiftedRight l r
+related ShiftRightUnsigned l r = shiftedRightUnsigned l r
+
+-- NOT, AND, OR and EOR work bit by bit. NOT stands between no operands
+abbrev pub binaryValue : Operator → ℕ → ℕ → ℕ
+binaryValue (Product Times) l r = product l r
+binaryValue (Product Over) l r = quotient l r
+binaryValue (Product Mod) l r = remainder l r
+binaryValue (Sum Plus) l r = sum l r
+binaryValue (Sum Minus) l r = difference l r
+binaryValue (Relation relation) l r = related relation l r
+binaryValue And l r = bitAnd l r
+binaryValue (Either Or) l r = bitOr l r
+binaryValue (Either Eor) l r = bitXor l r
+binaryValue Not l r = 0
+
+-- unary minus is 0 less the value; no other operator stands before one operand
+abbrev pub unaryValue : Operator → ℕ → ℕ
+unaryValue Not v = bitXor v 4294967295
+unaryValue (Sum Minus) v = difference 0 v
+unaryValue (Sum Plus) v = v
+unaryValue (Product p) v = v
+unaryValue (Relation r) v = v
+unaryValue And v = v
+unaryValue (Either e) v = v
