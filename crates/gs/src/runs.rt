@@ -9,6 +9,9 @@ ghost use Rattle.gs.specs.SymbolSteps.{alsoEnds, PlainByte, Stretch};
 // A block's length. Its weight is at most 7 for each byte, and so fits a byte.
 const BLOCK: usize = 16;
 
+// How many bytes are looked at one by one before the first block.
+const NEAR: usize = 8;
+
 // 1 where two bytes are equal, else 0: a number to be summed, and no branch.
 fn hit(a: u8, b: u8) -> u8
     ensures { λ r. ⌜ (r ≤ 1) × (r ≡ 0 → a ≡ b → ⊥) ⌝ }
@@ -85,15 +88,15 @@ fn bytes_end(text: &[u8], start: usize, stop: usize, also: u8) -> usize
     at
 }
 
-// A block's length behind `start`, or the text's end where that is nearer.
+// The first place behind the bytes from `start` on that are looked at one by one, or the text's end where that is nearer.
 fn block_behind(length: usize, start: usize) -> usize
     requires { ⌜ start ≤ length ⌝ }
     ensures { λ r. ⌜ (start ≤ r) × (r ≤ length) ⌝ }
 {
-    if length - start < BLOCK {
+    if length - start < NEAR {
         length
     } else {
-        start + BLOCK
+        start + NEAR
     }
 }
 
