@@ -1,6 +1,5 @@
 // Values: signed 32-bit numbers as their patterns, and what each operator makes of them.
 ghost use mathlib.Core.Path.{_≡_};
-ghost use mathlib.Core.Bool.{not};
 ghost use lib.IntN.{natAbs, pos};
 ghost use lib.Signed.{ltZ};
 ghost use Rattle.arithmetic.specs.Values.{signed, sum, difference, product, quotient, remainder, truth, less, atMost, shiftedLeft, shiftedRight, shiftedRightUnsigned, related, unaryValue, binaryValue};

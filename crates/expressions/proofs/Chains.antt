@@ -1,23 +1,20 @@
 -- The operators of one level from the left: the one law of all levels. `tighter` is the level of the operands.
-use mathlib.Core.Bool.{Bool, true, false, cond, _&&_}
+use mathlib.Core.Bool.{_&&_}
 use mathlib.Core.List.{List}
-use mathlib.Core.Path.{_≡_, refl, sym, ap, ap₂, subst, _∙_}
+use mathlib.Core.Path.{_≡_, refl, sym, ap, subst, _∙_}
 use Prim.Native.Nat.{ℕ, zero, suc, _+_, _-_, _<_, _≤_}
 use native.Mathlib.Omega.{arith}
 use lib.Dec.{eqb}
 use lib.ListN.{length}
-use Rattle.paper.specs.Refusals.{zero-divisor}
 use Rattle.paper.specs.Traces.{Run, finished, stopped, run, ended}
 use Rattle.paper.proofs.Choice.{either}
 use Rattle.variables.specs.Names.{Meaning}
 use Rattle.arithmetic.specs.Operators.{divides}
 use Rattle.expressions.specs.Tokens.{tokenAt}
 use Rattle.expressions.specs.Trees.{Tree, Parsed, tree, wrong, bindingBy, binding, joined, extended, following, levelAt, operandAt}
-use Rattle.arithmetic.specs.Values.{binaryValue}
 use Rattle.expressions.specs.Evaluations.{valueOf, steps}
 use Rattle.expressions.specs.Steps.{partBy, partOf, accountOf, appliedPart, joinedPart, behindPart}
 use Rattle.arithmetic.specs.declared.operators.Operator.{Operator}
-use Rattle.expressions.specs.declared.levels.Behind.{Behind}
 use Rattle.expressions.specs.declared.levels.Behind.the-variants.{Binds, Other}
 use Rattle.expressions.specs.declared.parts.Account.{Account}
 use Rattle.expressions.specs.declared.parts.Account.the-variants.{Open, Shut}

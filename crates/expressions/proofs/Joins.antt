@@ -11,7 +11,6 @@ use Rattle.variables.specs.Names.{Meaning, unknown, string-of, integer-of, macr
 use Rattle.arithmetic.specs.Operators.{divides}
 use Rattle.expressions.specs.Tokens.{tokenAt}
 use Rattle.expressions.specs.Trees.{Tree, constant, variable, unary, binary, Parsed, tree, wrong, binding, joined, covered, closedBy, wholeBy, closed, ended}
-use Rattle.arithmetic.specs.Values.{binaryValue}
 use Rattle.expressions.specs.Evaluations.{named, divided, valueOf, steps, evaluation, result}
 use Rattle.expressions.specs.Answers.{evaluatedBy}
 use Rattle.expressions.specs.Steps.{partBy, partOf, accountOf, movedTo, coveredPart, appliedPart, joinedPart, behindPart, closedPartBy, closedPart, endedPartBy, endedPart, answerOf}
@@ -21,8 +20,7 @@ use Rattle.expressions.specs.declared.tokens.Token.{Token}
 use Rattle.expressions.specs.declared.tokens.Token.the-variants.{End, Operator as Operates, Number, BadNumber, Name, Open as Bracket, Close, Strange}
 use Rattle.expressions.specs.declared.parts.Account.{Account}
 use Rattle.expressions.specs.declared.parts.Account.the-variants.{Open, Shut}
-use Rattle.expressions.specs.declared.parts.Part.{Part}
-use Rattle.expressions.specs.declared.parts.Part.the-variants.{Value, Refused, Wrong}
+use Rattle.expressions.specs.declared.parts.Part.the-variants.{Value, Refused}
 
 -- behind a run that finished the rest is run with the look-ups left
 abbrev onward : Run → Trace → Run

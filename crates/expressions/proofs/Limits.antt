@@ -1,8 +1,8 @@
 -- How far the numbers of an evaluation go: every place lies in the text, and every refusal is a listed one.
 use mathlib.Core.Bool.{cond, true, false, _&&_}
 use mathlib.Core.List.{List, List·Memᴰ, Memᴰ·append-left, List·Memᴰ·head as head}
-use mathlib.Core.Path.{_≡_, refl, sym, ap, subst, _∙_}
-use Prim.Native.Nat.{ℕ, zero, suc, _+_, _<_, _≤_}
+use mathlib.Core.Path.{_≡_, refl}
+use Prim.Native.Nat.{ℕ, zero, suc, _+_, _≤_}
 use native.Mathlib.Omega.{arith}
 use borrow.Author.Tests.{ltb-false}
 use lib.Dec.{ltb, eqb}
@@ -10,7 +10,7 @@ use lib.ListN.{length, getD, drop, length-drop}
 use Rattle.paper.specs.Bytes.{spaces, ends}
 use Rattle.paper.specs.Refusals.{no-digit, bad-base, too-big, unknown-name, too-deep, allowance-spent, bad-expression, zero-divisor, not-an-integer, over-length, longest}
 use Rattle.paper.specs.Texts.{bytes}
-use Rattle.paper.specs.Traces.{Trace, Run, finished, stopped, run, ended as end-at, refused, allowed}
+use Rattle.paper.specs.Traces.{Trace, Run, finished, stopped, run, ended as end-at, allowed}
 use Rattle.paper.specs.Traces as Traces
 use Rattle.paper.specs.declared.faults.Fault.{Fault}
 use Rattle.paper.specs.declared.faults.Fault.the-variants.{TooDeep, BadExpression}

@@ -1,7 +1,7 @@
 -- A part of an expression that is read goes on behind the place where it was asked for, and ends inside the text.
 use mathlib.Core.Bool.{cond, true, false}
 use mathlib.Core.List.{List}
-use mathlib.Core.Path.{_≡_, refl, sym, ap, subst, _∙_}
+use mathlib.Core.Path.{_≡_, refl}
 use Prim.Native.Nat.{ℕ, zero, suc, _<_, _≤_}
 use native.Mathlib.Omega.{arith}
 use lib.Dec.{eqb}
@@ -16,7 +16,7 @@ use Rattle.expressions.specs.declared.tokens.Token.{Token}
 use Rattle.expressions.specs.declared.tokens.Token.the-variants.{End, Operator as Operates, Number, BadNumber, Name, Open, Close, Strange}
 use Rattle.expressions.specs.declared.levels.Behind.{Behind}
 use Rattle.expressions.specs.declared.levels.Behind.the-variants.{Binds, Other}
-use Rattle.expressions.proofs.Places.{Takes, Stands, stands}
+use Rattle.expressions.proofs.Places.{Takes, stands}
 
 module _ (text : List ℕ) where
   pub record Onward (at : ℕ) (parsed : Parsed) : Type 0 where

@@ -1,5 +1,5 @@
 -- An operand by its first token: the part that the code makes of each is that of the definition.
-use mathlib.Core.Bool.{Bool, true, false, not, cond}
+use mathlib.Core.Bool.{Bool, true, false, not}
 use mathlib.Core.List.{List}
 use mathlib.Core.Path.{_≡_, refl, sym, ap, subst, _∙_}
 use Prim.Native.Nat.{ℕ, zero, suc, _-_}
@@ -9,7 +9,7 @@ use Rattle.paper.proofs.Choice.{hit, skip}
 use Rattle.variables.specs.Names.{Meaning}
 use Rattle.arithmetic.specs.Operators.{loosest, standsAlone}
 use Rattle.expressions.specs.Tokens.{tokenAt}
-use Rattle.expressions.specs.Trees.{Parsed, tree, wrong, covered, Deeper, levelAt, closed, operandBy, deepest, oneDeeper, operandAt}
+use Rattle.expressions.specs.Trees.{Parsed, wrong, covered, Deeper, levelAt, closed, operandBy, deepest, oneDeeper, operandAt}
 use Rattle.expressions.specs.Steps.{partOf, coveredPart, closedPart}
 use Rattle.arithmetic.specs.declared.operators.Operator.{Operator}
 use Rattle.expressions.specs.declared.tokens.Lexed.{Lexed}

@@ -19,7 +19,7 @@ use Rattle.expressions.specs.declared.tokens.Token.{Token}
 use Rattle.expressions.specs.declared.tokens.Token.the-variants.{End, Operator as Operates, Number, BadNumber, Name, Open as Bracket, Close, Strange}
 use Rattle.arithmetic.specs.declared.operators.Operator.{Operator}
 use Rattle.expressions.specs.declared.levels.Behind.{Behind}
-use Rattle.expressions.specs.declared.levels.Behind.the-variants.{Binds, Other}
+use Rattle.expressions.specs.declared.levels.Behind.the-variants.{Other}
 use Rattle.expressions.specs.declared.parts.Account.{Account}
 use Rattle.expressions.specs.declared.parts.Account.the-variants.{Open, Shut}
 use Rattle.expressions.specs.declared.parts.Part.{Part}

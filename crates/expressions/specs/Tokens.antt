@@ -1,5 +1,5 @@
 -- Tokens: an operator, a number, a name, a bracket, longest first, the spaces before each ignored.
-use mathlib.Core.Bool.{Bool, true, false, cond, _||_}
+use mathlib.Core.Bool.{Bool, false, cond, _||_}
 use mathlib.Core.List.{List, [], _∷_}
 use Prim.Native.Nat.{ℕ, suc, _+_}
 use lib.Dec.{eqb}
@@ -13,7 +13,6 @@ use Rattle.reader.specs.Reading.{reading}
 use Rattle.reader.specs.declared.Reading.{Reading}
 use Rattle.reader.specs.declared.Reading.the-variants.{Value, Refused}
 use Rattle.variables.specs.Records.{sameBytes}
-use Rattle.arithmetic.specs.declared.operators.Operator.{Operator}
 use Rattle.arithmetic.specs.declared.operators.Operator.the-variants.{Not, Product, Sum, Relation, And, Either}
 use Rattle.arithmetic.specs.declared.operators.Product.the-variants.{Times, Over, Mod}
 use Rattle.arithmetic.specs.declared.operators.Sum.the-variants.{Plus, Minus}

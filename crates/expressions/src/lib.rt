@@ -1,7 +1,5 @@
 // Expressions: a text of numbers, names, operators and brackets, evaluated whole or refused.
 ghost use mathlib.Core.Path.{_≡_};
-ghost use Prim.Native.Nat.{_≤_};
-ghost use lib.ListN.{length};
 ghost use Rattle.paper.specs.Traces.{run};
 ghost use Rattle.variables.specs.Indexes.{indexOf};
 ghost use Rattle.expressions.specs.Answers.{readingOf, valueIn, refusedAt, evaluatedBy, evaluated};

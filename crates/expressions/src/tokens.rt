@@ -2,7 +2,7 @@
 ghost use mathlib.Core.Path.{_≡_};
 ghost use mathlib.Core.List.{[], _∷_};
 ghost use Prim.Native.Nat.{_+_, _<_, _≤_, _^_};
-ghost use lib.ListN.{length, getD, drop};
+ghost use lib.ListN.{length, drop};
 ghost use Rattle.expressions.specs.declared.tokens.Token.the-variants.{Operator as Operates};
 ghost use Rattle.variables.specs.Records.{sameBytes};
 ghost use Rattle.expressions.specs.Tokens.{letter, wordByte, wordRun, lexed, wordToken, wordAt, faultOf, numberAt, single, fromLess, fromGreater, symbolAt, numeral, startingAt, tokenAt};

@@ -1,20 +1,19 @@
 -- The two passes of a translation: what the measuring one says of the answer, and what the writing one leaves.
-use mathlib.Core.Path.{_≡_, refl, ap, ap₂, sym, subst, _∙_}
+use mathlib.Core.Path.{_≡_, refl, ap, ap₂, sym, _∙_}
 use mathlib.Core.List.{List, [], _∷_, _++_}
-use Prim.Native.Nat.{ℕ, zero, suc, _+_, _-_, _≤_, _<_}
+use Prim.Native.Nat.{ℕ, _+_, _-_, _≤_, _<_}
 use native.Mathlib.Nat.{zero-add}
 use native.Mathlib.Omega.{arith}
-use lib.ListN.{length, take, drop}
+use lib.ListN.{length, drop}
 use lib.Seq.{sets-eq}
 use Rattle.paper.specs.Refusals.{no-room}
-use Rattle.paper.specs.Traces.{Trace, bytes, Run, finished, stopped, run, fit, answer}
-use Rattle.paper.proofs.Choice.{clash, below, not-below, same, other}
+use Rattle.paper.specs.Traces.{Trace, bytes, finished, stopped, run, fit, answer}
+use Rattle.paper.proofs.Choice.{clash, below, not-below, other}
 use Rattle.paper.proofs.DemandThree.{stopped-number}
-use Rattle.gs.specs.Translations.{refusedAt, translatedBy, leftBy}
-use Rattle.gs.specs.Steps.{Laid, Read, reached, broken}
+use Rattle.gs.specs.Translations.{refusedAt, translatedBy}
+use Rattle.gs.specs.Steps.{Read, reached, broken}
 use Rattle.gs.specs.declared.expansion.Expanded.{Expanded}
 use Rattle.gs.specs.declared.expansion.Expanded.the-variants.{Ended, Halted}
-use Rattle.gs.specs.declared.Translated.{Translated}
 use Rattle.gs.specs.declared.Translated.the-variants.{Written}
 
 -- nothing that was lent and came back is nothing before the rest

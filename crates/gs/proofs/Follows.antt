@@ -1,10 +1,10 @@
 -- What each kind of reference gives: how far it comes, as a piece of the reading.
-use mathlib.Core.Path.{_≡_, refl, ap, sym, subst, subst₂, _∙_}
-use mathlib.Core.List.{List, [], _∷_, _++_}
-use Prim.Native.Nat.{ℕ, zero, suc, _+_, _-_, _*_, _≤_}
+use mathlib.Core.Path.{_≡_, refl, ap, sym, subst, subst₂}
+use mathlib.Core.List.{List, [], _∷_}
+use Prim.Native.Nat.{ℕ, suc, _+_, _-_, _≤_}
 use native.Mathlib.Omega.{arith}
 use lib.ListN.{length}
-use Rattle.paper.specs.Traces.{Reference, Trace, asks, spends, enters, bytes, run, behind, finished, stopped}
+use Rattle.paper.specs.Traces.{asks, spends, bytes, run, behind}
 use Rattle.variables.specs.Names.{Meaning, pattern}
 use Rattle.gs.specs.Readings.{Expand, givesAll, decimalOf, whole, expands}
 use Rattle.gs.specs.Steps.{Laid, Came, went, halted, Read, reached, broken, partOf, pieceOf, behindAt}

@@ -1,7 +1,7 @@
 -- How far the numbers of a translation go: every place lies in the text, and every look-up gives 255 bytes at the most.
-use mathlib.Core.Path.{_≡_, refl, ap, sym, subst, _∙_}
-use mathlib.Core.Bool.{true, cond}
-use mathlib.Core.List.{List, [], _∷_, _++_, List·Memᴰ, Memᴰ·cast, Memᴰ·append-left}
+use mathlib.Core.Path.{_≡_, refl, ap, sym, subst}
+use mathlib.Core.Bool.{true}
+use mathlib.Core.List.{List, [], _∷_, List·Memᴰ, Memᴰ·cast, Memᴰ·append-left}
 use Prim.Native.Nat.{ℕ, zero, suc, _+_, _-_, _*_, _%_, _≤_, _<_}
 use native.Mathlib.Omega.{arith}
 use native.Mathlib.Decide.{decLt, decLe}
@@ -11,7 +11,7 @@ use lib.Seq.{getD-take, getD-drop}
 use borrow.Author.Tests.{ltb-false}
 use Rattle.paper.specs.Answers.{Answer}
 use Rattle.paper.specs.Refusals.{no-room, too-big, bad-code, bad-string, bad-reference, unknown-name, too-deep, allowance-spent, over-length, longest}
-use Rattle.paper.specs.Traces.{numberOf, Reference, Trace, ended, refused, gives, asks, spends, enters, bytes, Run, finished, stopped, behind, spending, run, fit, Ending, done, failed, beyond, ending, reached, lookUps, allowed}
+use Rattle.paper.specs.Traces.{numberOf, Reference, Trace, ended, refused, gives, asks, spends, enters, bytes, Run, finished, stopped, behind, run, fit, Ending, done, failed, beyond, ending, reached, lookUps, allowed}
 use Rattle.paper.specs.declared.faults.Fault.{Fault}
 use Rattle.paper.proofs.Choice.{clash, either}
 use Rattle.paper.proofs.Placed.{Placed, ended-at, refused-at, gives-on, asks-on, spends-at, enters-at, placeOf, run-placed, member, Listed, run-listed}
@@ -26,7 +26,6 @@ use Rattle.gs.specs.Readings.{givesAll, decimalOf, Expand, named, conten
 use Rattle.gs.specs.Translations.{readingOf, translatedBy, translatedOver, translated, inPaper, metNumbers, translateNumbers}
 use Rattle.gs.specs.declared.Translated.{Translated}
 use Rattle.gs.specs.declared.symbols.Mode.{Mode}
-use Rattle.gs.specs.declared.symbols.Opening.{Opening}
 use Rattle.gs.specs.declared.symbols.Symbol.{Symbol}
 use Rattle.gs.specs.declared.symbols.Symbol.the-variants.{End, Byte, Reference as Names, Bad}
 use Rattle.variables.specs.Records as Records

@@ -1,11 +1,11 @@
 -- Pieces of a reading: what they do to a run, and to the bytes given; and bytes that are laid one behind the other.
 use mathlib.Core.Path.{_≡_, refl, ap, sym, _∙_}
 use mathlib.Core.Bool.{Bool, true, false, cond}
-use mathlib.Core.List.{List, [], _∷_, _++_, append-assoc}
-use Prim.Native.Nat.{ℕ, zero, suc, _+_, _*_, _≤_}
-use native.Mathlib.Nat.{add-suc, suc-add, add-zero, add-assoc}
+use mathlib.Core.List.{List, [], _∷_, _++_}
+use Prim.Native.Nat.{ℕ, suc, _+_, _≤_}
+use native.Mathlib.Nat.{add-suc, suc-add, add-zero}
 use native.Mathlib.Omega.{arith}
-use lib.Dec.{ltb, eqb}
+use lib.Dec.{eqb}
 use lib.ListN.{length, getD, set, length-append}
 use lib.Seq.{sets}
 use Rattle.paper.specs.Refusals.{too-big}
@@ -16,8 +16,8 @@ use Rattle.reader.specs.Reading.{reading}
 use Rattle.reader.specs.declared.Reading.{Reading}
 use Rattle.reader.specs.declared.Reading.the-variants.{Value, Refused}
 use Rattle.variables.specs.Records as Records
-use Rattle.variables.specs.Records.{Entry, nothing, means, nextPlace, valueLength, valueAt, entryAt, entries, meaning, sameName}
-use Rattle.variables.specs.Tables.{most, meaningOf, variableAt}
+use Rattle.variables.specs.Records.{nothing, means, valueLength}
+use Rattle.variables.specs.Tables.{meaningOf, variableAt}
 use Rattle.variables.specs.Names.{string-of, integer-of, macro-of, pattern, meant, inReading, namesOf}
 use Rattle.variables.proofs.Own.{Own, meaning-own, own-value}
 use Rattle.gs.specs.Readings.{Expand, givesAll, decimalOf, named, content}

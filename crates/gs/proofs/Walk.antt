@@ -1,6 +1,5 @@
 -- The walk through a text, symbol by symbol: what holds between two symbols, what each symbol makes of it, and where it ends.
-use mathlib.Core.Path.{_≡_, refl, ap, sym, subst, _∙_}
-use mathlib.Core.Bool.{true}
+use mathlib.Core.Path.{_≡_, ap, sym, subst, _∙_}
 use mathlib.Core.List.{List, [], _∷_, _++_, append-assoc, append-nil}
 use Prim.Native.Nat.{ℕ, zero, suc, _+_, _-_, _*_, _≤_, _<_}
 use native.Mathlib.Nat.{add-zero}
@@ -10,10 +9,9 @@ use Rattle.paper.proofs.Choice.{clash}
 use Rattle.paper.specs.Traces.{numberOf, Trace, bytes, run, stopped}
 use Rattle.paper.specs.declared.TextPlace.{TextPlace}
 use Rattle.paper.specs.declared.faults.Fault.{Fault}
-use Rattle.reader.specs.Reading.{reading}
 use Rattle.variables.specs.Names.{Meaning, namesOf}
 use Rattle.gs.specs.Symbols.{symbolAt, opened}
-use Rattle.gs.specs.Readings.{Expand, content, symbolic, following, whole}
+use Rattle.gs.specs.Readings.{Expand, symbolic, following, whole}
 use Rattle.gs.specs.Steps.{Laid, Passes, Came, went, halted, Read, reached, broken, referredIn, pieceOf}
 use Rattle.gs.specs.declared.symbols.Mode.{Mode}
 use Rattle.gs.specs.declared.symbols.Opening.{Opening}

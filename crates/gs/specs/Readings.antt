@@ -1,16 +1,16 @@
 -- The reading of a text as a trace, over what names mean.
 use mathlib.Core.Bool.{true, false, cond}
 use mathlib.Core.List.{List, [], _∷_}
-use Prim.Native.Nat.{ℕ, zero, suc, _+_, _-_, _*_, _%_}
+use Prim.Native.Nat.{ℕ, zero, suc, _-_, _%_}
 use lib.Dec.{eqb}
-use lib.ListN.{length, getD, take, drop}
+use lib.ListN.{length, take, drop}
 use Rattle.paper.specs.Refusals.{too-big}
-use Rattle.paper.specs.Traces.{Reference, Trace, ended, refused, gives, asks, spends, enters}
+use Rattle.paper.specs.Traces.{Trace, ended, refused, gives, asks, spends, enters}
 use Rattle.paper.specs.declared.faults.Fault.the-variants.{TooBig, UnknownName, TooDeep}
 use Rattle.numbers.specs.Strings.{string}
 use Rattle.numbers.specs.Calls.{decimal}
 use Rattle.numbers.specs.declared.forms.Width.the-variants.{Word}
-use Rattle.reader.specs.Reading.{reading, numberOf}
+use Rattle.reader.specs.Reading.{reading}
 use Rattle.reader.specs.declared.Reading.the-variants.{Value, Refused}
 use Rattle.reader.specs.declared.Reading.{Reading as Read}
 use Rattle.variables.specs.Names.{Meaning, unknown, string-of, integer-of, macro-of}
@@ -18,7 +18,6 @@ use Rattle.gs.specs.Symbols.{symbolAt, opened}
 use Rattle.gs.specs.declared.symbols.Mode.{Mode}
 use Rattle.gs.specs.declared.symbols.Symbol.{Symbol}
 use Rattle.gs.specs.declared.symbols.Symbol.the-variants.{End, Byte, Reference as Names, Bad}
-use Rattle.gs.specs.declared.symbols.Opening.{Opening}
 
 -- bytes given one behind the other
 abbrev pub givesAll : List ℕ → Trace → Trace

@@ -7,13 +7,13 @@ use lib.Dec.{eqb}
 use lib.ListN.{length, take, drop}
 use lib.Seq.{sets}
 use Rattle.paper.specs.Refusals.{too-big}
-use Rattle.paper.specs.Traces.{Trace, refused, gives, asks, spends, bytes, Run, finished, stopped, run}
+use Rattle.paper.specs.Traces.{Trace, refused, gives, asks, spends, bytes, finished, stopped, run}
 use Rattle.paper.specs.declared.faults.Fault.the-variants as Faults
 use Rattle.reader.specs.Reading.{reading}
 use Rattle.reader.specs.declared.Reading.{Reading}
 use Rattle.reader.specs.declared.Reading.the-variants.{Value, Refused}
 use Rattle.variables.specs.Records as Records
-use Rattle.variables.specs.Records.{Entry, nothing, means}
+use Rattle.variables.specs.Records.{nothing, means}
 use Rattle.variables.specs.Tables.{meaningOf, variableAt}
 use Rattle.variables.specs.Names.{pattern}
 use Rattle.variables.specs.declared.Variable.{Variable}

@@ -1,10 +1,10 @@
 -- One symbol of a text: where the text ends, a byte, a reference, or a fault. Past the slice's end stands a zero, which ends the text
 -- as the slice's end does.
-use mathlib.Core.Bool.{Bool, true, false, cond, not, _&&_, _||_}
+use mathlib.Core.Bool.{Bool, false, cond, not, _&&_, _||_}
 use mathlib.Core.List.{List, [], _∷_}
 use Prim.Native.Nat.{ℕ, suc, _+_, _-_}
 use lib.Dec.{ltb, leb, eqb}
-use lib.ListN.{length, getD, drop}
+use lib.ListN.{getD, drop}
 use Rattle.paper.specs.Bytes.{spaces, among, ends}
 use Rattle.paper.specs.declared.faults.Fault.{Fault}
 use Rattle.paper.specs.declared.faults.Fault.the-variants.{BadCode, BadString, BadReference}

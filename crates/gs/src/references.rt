@@ -7,7 +7,6 @@ ghost use lib.Dec.{eqb};
 ghost use lib.ListN.{length};
 ghost use Rattle.paper.specs.Refusals.{«too-big»};
 ghost use Rattle.paper.specs.Traces.{asks, spends};
-ghost use Rattle.numbers.specs.Strings.{string};
 ghost use Rattle.reader.specs.Reading.{numberOf};
 ghost use Rattle.variables.specs.Records as Records;
 ghost use Rattle.variables.specs.Tables.{foundAs, meaningOf};

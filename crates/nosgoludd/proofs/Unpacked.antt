@@ -4,7 +4,6 @@ use mathlib.Core.Bool.{Bool}
 use mathlib.Core.List.{List}
 use Prim.Native.Nat.{ℕ, _/_, _%_, _≤_}
 use native.Mathlib.Omega.{arith}
-use Rattle.paper.specs.Answers.{Answer}
 use Rattle.numbers.specs.Strings.{inPaper}
 use Rattle.numbers.specs.Calls.{answerOf}
 use Rattle.numbers.proofs.Bounds.{answer-small}

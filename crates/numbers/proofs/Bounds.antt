@@ -1,27 +1,26 @@
 -- How long a string can be: every answer's numbers are small.
-use mathlib.Core.Path.{_≡_, refl, ap, sym, _∙_}
-use mathlib.Core.Bool.{Bool, true, false, cond, _&&_, and-eq-true-iff}
+use mathlib.Core.Path.{_≡_, refl}
+use mathlib.Core.Bool.{Bool, true, false, cond, and-eq-true-iff}
 use mathlib.Core.List.{[], _∷_}
-use Prim.Native.Nat.{ℕ, _+_, _-_, _*_, _%_, _^_, _≤_, _<_}
+use Prim.Native.Nat.{ℕ, _-_, _*_, _^_, _≤_, _<_}
 use native.Mathlib.Nat.{mod-lt, pow-le-pow-right}
 use native.Mathlib.Omega.{arith}
-use lib.Dec.{leb, ltb}
+use lib.Dec.{ltb}
 use lib.ListN.{length}
 use lib.Pow.{pow-pos}
 use borrow.Author.Tests.{leb-true}
 use Rattle.paper.specs.Answers.{Answer}
 use Rattle.paper.proofs.Choice.{either}
-use Rattle.numbers.specs.Strings.{bits, used, negative, magnitude, count, minus, string, terminator, needed, conversion, inPaper}
-use Rattle.numbers.specs.Steps.{spreadOf, charactersOf}
-use Rattle.numbers.specs.Calls.{hex, binary, decimal, described, answerIn, answerOf}
-use Rattle.numbers.specs.declared.Converted.{Converted}
+use Rattle.numbers.specs.Strings.{bits, used, negative, magnitude, count, string, needed, conversion, inPaper}
+use Rattle.numbers.specs.Steps.{spreadOf}
+use Rattle.numbers.specs.Calls.{described, answerIn, answerOf}
 use Rattle.numbers.specs.declared.calls.Described.{Described}
 use Rattle.numbers.specs.declared.calls.Described.the-variants.{Unknown, Known}
 use Rattle.numbers.specs.declared.forms.Base.the-variants.{Ten}
 use Rattle.numbers.specs.declared.forms.Width.{Width}
 use Rattle.numbers.specs.declared.forms.Width.the-variants.{Nibble, Byte, TwoBytes, ThreeBytes, Word}
 use Rattle.numbers.specs.declared.forms.Form.{Form}
-use Rattle.numbers.proofs.Families.{Family, unknown, in-hex, in-binary, in-decimal, family}
+use Rattle.numbers.proofs.Families.{Family, in-hex, in-binary, in-decimal, family}
 use Rattle.numbers.proofs.Laws.{count-small, enough-least, string-length}
 
 pub bits-range : (w : Width) → (4 ≤ bits w) × (bits w ≤ 32)

@@ -1,6 +1,5 @@
 -- Demand 3, over all traces: what more look-ups and more room change in an answer, and when No room and Allowance spent come.
 use mathlib.Core.Path.{_≡_, refl, ap, sym, subst, subst₂, _∙_}
-use mathlib.Core.Bool.{cond}
 use mathlib.Core.Logic.{_↔_}
 use Prim.Native.Nat.{ℕ, zero, suc, _+_, _-_, _≤_, _<_}
 use native.Mathlib.Nat.{suc-add, zero-add, add-assoc}
@@ -10,7 +9,7 @@ use lib.Dec.{ltb}
 use lib.ListN.{length}
 use Rattle.paper.specs.Answers.{Answer, Grown}
 use Rattle.paper.specs.Refusals.{no-room, allowance-spent}
-use Rattle.paper.specs.Traces.{numberOf, Reference, Trace, ended, refused, gives, asks, spends, enters, bytes, Run, finished, stopped, behind, spending, run, fit, answer, Ending, done, failed, beyond, ending, reached, lookUps}
+use Rattle.paper.specs.Traces.{numberOf, Trace, ended, refused, gives, asks, spends, enters, bytes, Run, finished, stopped, behind, spending, run, fit, answer, Ending, done, failed, beyond, ending, reached, lookUps}
 use Rattle.paper.specs.declared.faults.Fault.{Fault}
 use Rattle.paper.specs.declared.faults.Fault.the-variants.{NoDigit, BadBase, TooBig, BadCode, BadString, BadReference, UnknownName, TooDeep, BadExpression, ZeroDivisor, NotAnInteger}
 use Rattle.paper.proofs.Choice.{below, not-below, either}

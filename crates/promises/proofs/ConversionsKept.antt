@@ -1,8 +1,7 @@
 -- What `convert` promises is kept.
 use mathlib.Core.Path.{_≡_, refl, ap, ap₂, sym, subst, _∙_}
-use mathlib.Core.Bool.{Bool, false}
 use mathlib.Core.List.{List, [], _++_, append-assoc, append-nil}
-use Prim.Native.Nat.{ℕ, _+_, _-_, _≤_, _<_}
+use Prim.Native.Nat.{ℕ, _+_, _≤_}
 use native.Mathlib.Omega.{arith}
 use lib.ListN.{length, take, drop, length-append}
 use lib.Seq.{take-at, drop-at, take-append-seam}
@@ -10,16 +9,14 @@ use Rattle.paper.specs.Refusals.{no-room, longest}
 use Rattle.numbers.specs.Strings.{used, string, terminator, needed, inPaper}
 use Rattle.numbers.specs.Calls.{described}
 use Rattle.numbers.specs.declared.Converted.{Converted}
-use Rattle.numbers.specs.declared.calls.Described.the-variants.{Unknown, Known}
+use Rattle.numbers.specs.declared.calls.Described.the-variants.{Known}
 use Rattle.numbers.specs.declared.forms.Base.{Base}
 use Rattle.numbers.specs.declared.forms.Base.the-variants.{Two, Ten, Sixteen}
 use Rattle.numbers.specs.declared.forms.Form.{Form}
 use Rattle.numbers.proofs.Families.{Family, family}
 use Rattle.numbers.proofs.Bounds.{fixed-small, string-short}
 use Rattle.reader.specs.Reading.{reading, valued, lead}
-use Rattle.reader.specs.declared.Reading.{Reading}
 use Rattle.reader.proofs.ReadBack.{read-back}
-use Rattle.promises.specs.Allowed.{Converts, Reads}
 use Rattle.promises.specs.Conversions.{OneAnswer, Refuses, Refusals, Bytes, ReadsBack, Grows, LargerRoom, SecondAsk}
 use Rattle.promises.proofs.Outcomes.{Outcome, unknown, short, whole, one-form, not-both, outcome}
 

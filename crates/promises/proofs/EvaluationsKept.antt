@@ -1,26 +1,22 @@
 -- What `evaluate` promises is kept: demand 3 is that of every trace, at the trace of the evaluation.
-use mathlib.Core.Path.{_≡_, refl, ap, sym, subst, _∙_}
-use mathlib.Core.List.{List, Memᴰ·cast}
-use Prim.Native.Nat.{ℕ, _+_, _-_, _≤_, _<_, min}
+use mathlib.Core.Path.{_≡_, refl, ap, sym, _∙_}
+use mathlib.Core.List.{Memᴰ·cast}
+use Prim.Native.Nat.{ℕ, _+_, _-_, _<_}
 use native.Mathlib.Decide.{decLt}
 use native.Mathlib.Omega.{arith}
 use lib.ListN.{length}
-use Rattle.paper.specs.Refusals.{allowance-spent, over-length, longest}
-use Rattle.paper.specs.Traces.{Trace, Run, finished, stopped, run, lookUps, allowed}
+use Rattle.paper.specs.Refusals.{longest}
+use Rattle.paper.specs.Traces.{Run, finished, stopped, run, allowed}
 use Rattle.paper.specs.declared.TextPlace.{TextPlace}
-use Rattle.paper.specs.declared.RecordPlace.{RecordPlace}
 use Rattle.paper.proofs.Choice.{clash}
 use Rattle.paper.proofs.DemandThree.{stopNumber, run-more, run-spent}
 use Rattle.variables.specs.Tables.{checked}
 use Rattle.variables.specs.declared.Checked.{Checked}
 use Rattle.variables.specs.declared.Checked.the-variants.{Good, Refused as Unsound}
-use Rattle.expressions.specs.Answers.{readingOf, valueIn, refusedAt, evaluatedBy, evaluatedOver, evaluated, numberOf}
-use Rattle.expressions.specs.declared.Evaluated.{Evaluated}
-use Rattle.expressions.specs.declared.Evaluated.the-variants.{Value, Refused, BadTable}
+use Rattle.expressions.specs.Answers.{readingOf, valueIn, evaluatedBy, evaluated, numberOf}
+use Rattle.expressions.specs.declared.Evaluated.the-variants.{Value}
 use Rattle.expressions.proofs.Limits.{evaluated-bounded}
 use Rattle.expressions.proofs.Orders.{too-long, over}
-use Rattle.promises.specs.Allowed.{Evaluates}
-use Rattle.promises.specs.Translations.{Sound}
 use Rattle.promises.specs.Evaluations.{OneAnswer, Refusals, Valued, ByReading, Unread, LargerAllowance, Spent}
 
 pub one-answer : OneAnswer

@@ -1,26 +1,23 @@
 -- What `translate` promises is kept: demand 3 is that of every trace, at the trace of the reading.
-use mathlib.Core.Path.{_≡_, refl, ap, sym, subst, subst₂, _∙_}
+use mathlib.Core.Path.{_≡_, refl, ap, sym, subst₂, _∙_}
 use mathlib.Core.Bool.{Bool, true, false, cond}
-use mathlib.Core.List.{List, _++_, Memᴰ·cast}
-use Prim.Native.Nat.{ℕ, _+_, _-_, _≤_, _<_, min}
+use mathlib.Core.List.{List, Memᴰ·cast}
+use Prim.Native.Nat.{ℕ, _+_, _-_}
 use native.Mathlib.Omega.{arith}
 use lib.Dec.{eqb}
-use lib.ListN.{length, drop}
+use lib.ListN.{length}
 use borrow.Author.Tests.{eqb-true}
 use Rattle.paper.specs.Answers.{Answer, Grown}
-use Rattle.paper.specs.Refusals.{no-room, allowance-spent, over-length, longest}
-use Rattle.paper.specs.Traces.{Trace, bytes, answer, allowed}
+use Rattle.paper.specs.Traces.{bytes, answer, allowed}
 use Rattle.paper.proofs.DemandThree.{more-room, more-allowance, no-room-exactly, no-room-need, spent-exactly}
-use Rattle.variables.specs.Tables.{checked}
 use Rattle.variables.specs.declared.Checked.the-variants.{Good, Refused as Unsound}
-use Rattle.paper.specs.declared.RecordPlace.{RecordPlace}
-use Rattle.gs.specs.Translations.{readingOf, translatedBy, translatedOver, leftBy, translated, outAfter, inPaper}
+use Rattle.gs.specs.Translations.{readingOf, translatedBy, leftBy, outAfter, inPaper}
 use Rattle.gs.specs.declared.Translated.{Translated}
 use Rattle.gs.proofs.Limits.{translated-listed}
 use Rattle.gs.proofs.Orders.{too-long, over}
 use Rattle.gs.specs.declared.Translated.the-variants.{Written, Refused, BadTable}
 use Rattle.promises.specs.Allowed.{Translates}
-use Rattle.promises.specs.Translations.{OneAnswer, Refusals, Kept, Bytes, Sound, ByReading, Unread, LargerRoom, LargerAllowance, NoRoom, Spent}
+use Rattle.promises.specs.Translations.{OneAnswer, Refusals, Kept, Bytes, ByReading, Unread, LargerRoom, LargerAllowance, NoRoom, Spent}
 
 pub one-answer : OneAnswer
 one-answer text table flags allowance out after after′ r r′ c c′ = (c .answer ∙ sym (c′ .answer), c .buffer ∙ sym (c′ .buffer))

@@ -1,5 +1,5 @@
 -- Every worked example holds of every answer that the contracts allow.
-use mathlib.Core.Path.{_≡_, refl, ap, sym, _∙_}
+use mathlib.Core.Path.{_≡_, refl, ap, _∙_}
 use mathlib.Core.Bool.{true, false}
 use mathlib.Core.List.{List, [], _∷_, _++_}
 use Prim.Native.Nat.{ℕ, _≤_, _<_}
@@ -17,7 +17,6 @@ use Rattle.numbers.specs.declared.calls.Described.the-variants.{Known}
 use Rattle.numbers.specs.declared.forms.Form.{Form}
 use Rattle.numbers.specs.declared.forms.Width.the-variants.{Byte, ThreeBytes, Word}
 use Rattle.reader.specs.Reading.{digit, judged, behind, numbered, reading, numberOf, placeOf, valueOf}
-use Rattle.reader.specs.declared.Reading.{Reading}
 use Rattle.paper.specs.Traces as Traces
 use Rattle.variables.specs.Records.{headed, sized, fitting, nameAt, valueAt, nameByte, small, sameName, entryAt, entries, meaning}
 use Rattle.variables.specs.Tables.{sound, scanned, checked}
@@ -32,8 +31,8 @@ use Rattle.arithmetic.specs.Values.{signed, sum, difference, product, quotient,
 use Rattle.expressions.specs.Evaluations.{divided}
 use Rattle.expressions.specs.Answers as Answers
 use Rattle.expressions.specs.Answers.{evaluated}
-use Rattle.promises.specs.Allowed.{Converts, Reads, Translates, Evaluates}
-use Rattle.promises.specs.Examples.{Row, writes, lacks, reads, refuses, translates, evaluates, Holds, All, examples}
+use Rattle.promises.specs.Allowed.{Converts}
+use Rattle.promises.specs.Examples.{writes, lacks, reads, refuses, translates, evaluates, Holds, All, examples}
 use Rattle.paper.specs.Texts.{bytes}
 use Rattle.promises.proofs.Outcomes.{Outcome, unknown, short, whole as entire, one-form, not-both, outcome}
 

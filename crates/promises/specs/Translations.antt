@@ -4,9 +4,9 @@ use mathlib.Core.List.{List, _++_, List·Memᴰ}
 use mathlib.Core.Logic.{_↔_}
 use Prim.Native.Nat.{ℕ, _+_, _≤_, _<_}
 use lib.ListN.{length, getD, drop}
-use Rattle.paper.specs.Answers.{Answer, Grown}
+use Rattle.paper.specs.Answers.{Grown}
 use Rattle.paper.specs.Refusals.{no-room, allowance-spent, over-length, longest}
-use Rattle.paper.specs.Traces.{Trace, bytes, answer, Ending, done, ending, lookUps, allowed}
+use Rattle.paper.specs.Traces.{bytes, answer, done, ending, lookUps, allowed}
 use Rattle.variables.specs.Tables.{checked}
 use Rattle.variables.specs.declared.Checked.the-variants.{Good, Refused as Unsound}
 use Rattle.gs.specs.Translations.{readingOf, inPaper, translateNumbers}

@@ -1,5 +1,5 @@
 -- What the proofs share: the digits that stand in a text from a place on, and values that are cut.
-use mathlib.Core.Bool.{Bool, true, false, cond}
+use mathlib.Core.Bool.{Bool}
 use mathlib.Core.List.{List, [], _∷_}
 use mathlib.Core.Path.{_≡_, ap}
 use Prim.Native.Nat.{ℕ, suc, _+_, _*_, _<_, _≤_}

@@ -1,11 +1,11 @@
 -- What a check that came to a place has passed: records one behind the other, and their lines at the start of the index.
 use mathlib.Core.List.{List, [], _∷_, _++_, map-append}
 use mathlib.Core.Path.{_≡_, refl, ap, sym, subst, _∙_}
-use Prim.Native.Nat.{ℕ, suc, _+_, _-_, _<_, _≤_}
+use Prim.Native.Nat.{ℕ, suc, _+_, _-_, _<_}
 use native.Mathlib.Omega.{arith}
 use lib.ListN.{length, getD, set, take, drop, length-map, length-append}
 use lib.Seq.{drop-cons, append-snoc, set-append-seam, take-append-seam}
-use Rattle.variables.specs.Records.{nextPlace, Entry, entryAt}
+use Rattle.variables.specs.Records.{nextPlace, entryAt}
 use Rattle.variables.specs.Tables.{most, before}
 use Rattle.variables.specs.Indexes.{lineOf, linesOf, laidOver}
 use Rattle.variables.proofs.Chain.{Chain, end, none-left, exact, snoc}

@@ -5,7 +5,7 @@ use Prim.Native.Nat.{ℕ, _+_, _*_, _/_, _%_}
 use lib.Dec.{eqb}
 use lib.ListN.{length, drop}
 use Rattle.variables.specs.Records.{small, sameName, nameAt, Entry, entryAt, Meaning, nothing, means}
-use Rattle.variables.specs.Tables.{before, recordsOf}
+use Rattle.variables.specs.Tables.{recordsOf}
 use Rattle.variables.specs.declared.Checked.{Checked}
 use Rattle.variables.specs.declared.Checked.the-variants.{Good, Refused}
 

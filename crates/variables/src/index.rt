@@ -4,7 +4,6 @@ ghost use mathlib.Core.Path.{_≡_};
 ghost use mathlib.Core.Bool.{_&&_};
 ghost use Prim.Native.Nat.{_/_, _%_, _<_, _≤_};
 ghost use lib.Dec.{eqb};
-ghost use lib.ListN.{length};
 ghost use Rattle.variables.specs.Indexes.{lineOf, meaningBy};
 ghost use Rattle.variables.specs.Records.{nameAt, sameName, entryAt};
 ghost use Rattle.variables.specs.Tables.{foundAs};

@@ -1,5 +1,5 @@
 -- `fill` meets its contract: the measuring pass decides, and the writing pass goes the same way with all of it fitting.
-use mathlib.Core.Path.{_≡_, ap, sym, subst, _∙_}
+use mathlib.Core.Path.{ap, sym, subst, _∙_}
 use mathlib.Core.List.{[], _++_}
 use Prim.Native.Nat.{_-_, _≤_, _<_}
 use lib.ListN.{length, drop}

@@ -2,14 +2,14 @@
 -- loosest again, one level deeper. What falls at each call is eight times the levels left and the level's own number.
 use mathlib.Core.Bool.{not}
 use mathlib.Core.Path.{_≡_, refl, sym, ap, _∙_}
-use Prim.Native.Nat.{ℕ, suc, _+_, _*_, _<_, _≤_}
+use Prim.Native.Nat.{ℕ, _+_, _*_, _<_}
 use native.Mathlib.Omega.{arith}
 use lib.ListN.{length}
 use borrow.Author.Needs.{needs}
 use borrow.Fn.Kinds.{In}
 use borrow.Fn.PlainCycle.{Measures, is, falls, and}
 use Rattle.variables.specs.Names.{namesOf}
-use Rattle.expressions.specs.Trees.{tree, wrong, constant, variable, levelAt, operandAt}
+use Rattle.expressions.specs.Trees.{wrong, levelAt, operandAt}
 use Rattle.expressions.specs.Steps.{partOf}
 use Rattle.expressions.specs.declared.parts.Account.{Account}
 use Rattle.expressions.specs.declared.tokens.Token.the-variants.{End, Number, BadNumber, Name, Close, Strange}

@@ -10,7 +10,6 @@ use Rattle.expressions.specs.Trees.{bindingBy}
 use Rattle.arithmetic.specs.declared.operators.Operator.{Operator}
 use Rattle.expressions.specs.declared.tokens.Token.{Token}
 use Rattle.expressions.specs.declared.tokens.Token.the-variants.{End, Operator as Operates, Number, BadNumber, Name, Open, Close, Strange}
-use Rattle.expressions.specs.declared.levels.Behind.{Behind}
 use Rattle.expressions.specs.declared.levels.Behind.the-variants.{Binds, Other}
 use Rattle.expressions.proofs.tokens.Token as Token
 use borrow.Author.Needs.{needs}

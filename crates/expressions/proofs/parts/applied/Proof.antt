@@ -1,6 +1,6 @@
 -- `applied` meets its contract: a divisor of zero is refused, and every other value is the operator's.
 use mathlib.Core.Path.{_≡_, refl, ap, sym, _∙_}
-use mathlib.Core.Bool.{Bool, true, false, cond, _&&_}
+use mathlib.Core.Bool.{true, false, _&&_}
 use Prim.Native.Nat.{ℕ}
 use lib.Dec.{eqb}
 use Rattle.paper.specs.Refusals.{zero-divisor}

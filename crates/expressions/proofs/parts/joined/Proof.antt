@@ -1,5 +1,5 @@
 -- `joined` meets its contract, case by case.
-use mathlib.Core.Path.{_≡_, ap, ap₂, sym, _∙_}
+use mathlib.Core.Path.{ap, ap₂, sym, _∙_}
 use Rattle.expressions.specs.Steps.{joinedPart}
 use borrow.Author.Needs.{needs}
 use Rattle.expressions.proofs.parts.joined.Statement.{statement}

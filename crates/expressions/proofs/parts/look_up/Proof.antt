@@ -4,16 +4,16 @@ use mathlib.Core.Path.{_≡_, refl, ap, ap₂, sym, _∙_}
 use Prim.Native.Nat.{ℕ, zero, suc, _-_}
 use native.Mathlib.Omega.{arith}
 use borrow.Author.Needs.{needs}
-use borrow.Author.Tests.{ne-eqb, eqb-true}
+use borrow.Author.Tests.{eqb-true}
 use lib.Dec.{eqb}
 use lib.ListN.{take, drop}
 use Rattle.paper.specs.Refusals.{unknown-name, not-an-integer, allowance-spent}
 use Rattle.paper.specs.Traces.{run, ended}
 use Rattle.paper.proofs.Choice.{clash, either, same, other}
 use Rattle.variables.specs.Records as Records
-use Rattle.variables.specs.Records.{Entry, nothing, means, entryAt}
+use Rattle.variables.specs.Records.{Entry, nothing, means}
 use Rattle.variables.specs.Tables.{variableAt, foundAs, meaningOf}
-use Rattle.variables.specs.Names.{Meaning, string-of, integer-of, macro-of, pattern, meant, inReading}
+use Rattle.variables.specs.Names.{Meaning, integer-of, pattern, meant, inReading}
 use Rattle.variables.specs.declared.Found.{Found}
 use Rattle.variables.specs.declared.Found.the-variants.{At, Nothing, Unsound}
 use Rattle.variables.specs.declared.Variable.{Variable}

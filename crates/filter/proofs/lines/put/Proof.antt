@@ -1,12 +1,11 @@
 -- `put` meets its contract: the loop pastes one byte after the other.
-use mathlib.Core.Path.{_≡_, refl, ap, sym, _∙_}
+use mathlib.Core.Path.{_≡_, ap, _∙_}
 use mathlib.Core.List.{List, _++_}
 use Prim.Native.Nat.{ℕ, _+_, _-_, _≤_}
 use native.Mathlib.Numerals.{add-one}
 use native.Mathlib.Omega.{arith}
 use lib.ListN.{length, getD, set, take}
 use lib.Seq.{paste, paste-zero, paste-suc, length-paste, take-paste, take-length}
-use borrow.Author.Needs.{needs}
 use Rattle.filter.specs.Lines.{Longer}
 use Rattle.filter.proofs.lines.put.Statement.{statement}
 use Rattle.filter.proofs.lines.put.Tie as tie

@@ -1,14 +1,14 @@
 -- `expand` and `follow` meet their contracts: a level of a text calls a reference, and a macro's reference a level deeper.
 use mathlib.Core.Path.{_≡_, refl, ap, sym, subst, _∙_}
-use mathlib.Core.List.{List, [], _∷_, _++_}
-use Prim.Native.Nat.{suc, _+_, _-_, _*_, _≤_}
+use mathlib.Core.List.{List}
+use Prim.Native.Nat.{_+_, _-_, _*_, _≤_}
 use native.Mathlib.Omega.{arith}
 use lib.ListN.{length, take, drop, length-take}
 use borrow.Author.Needs.{needs}
 use denote.Ref.{now}
 use Rattle.variables.specs.Names.{namesOf}
 use Rattle.gs.specs.Readings.{expands, whole}
-use Rattle.gs.specs.Steps.{Laid, Came, went, halted, Read, pieceOf, lengthIn, referredIn, behindAt, partOf}
+use Rattle.gs.specs.Steps.{Came, halted, Read, pieceOf, lengthIn, referredIn, partOf}
 use Rattle.variables.specs.declared.Variable.{Variable}
 use Rattle.gs.proofs.Pieces.{value-small}
 use Rattle.gs.proofs.PlainRuns.{at-run}

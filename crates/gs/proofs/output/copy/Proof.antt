@@ -6,7 +6,6 @@ use native.Mathlib.Numerals.{add-one}
 use native.Mathlib.Omega.{arith}
 use lib.ListN.{length, getD, set, take, drop}
 use lib.Seq.{sets, sets-eq, paste, paste-zero, paste-suc, length-paste, take-length}
-use borrow.Author.Needs.{needs}
 use Rattle.gs.proofs.output.copy.Statement.{statement}
 use Rattle.gs.proofs.output.copy.Tie as tie
 

@@ -1,15 +1,14 @@
 -- `referred` meets its contract: a name of one byte at least, and ">" behind it.
 use mathlib.Core.List.{List}
-use mathlib.Core.Path.{_≡_, ap}
-use Prim.Native.Nat.{ℕ, _+_, _<_}
+use mathlib.Core.Path.{_≡_}
+use Prim.Native.Nat.{ℕ, _+_}
 use native.Mathlib.Omega.{arith}
 use borrow.Author.Needs.{needs}
 use borrow.Author.Tests.{eq-eqb, ne-eqb, lt-ltb, le-ltb}
-use lib.ListN.{drop, getD}
+use lib.ListN.{drop}
 use Rattle.paper.proofs.Spaces.{inside}
 use Rattle.gs.specs.Symbols.{nameRun}
 use Rattle.gs.specs.Symbols.{referred}
-use Rattle.gs.specs.declared.symbols.Symbol.the-variants.{Reference}
 use Rattle.gs.proofs.symbols.referred.Statement.{statement}
 use Rattle.gs.proofs.symbols.referred.Tie as tie
 

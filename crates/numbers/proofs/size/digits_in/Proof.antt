@@ -1,6 +1,6 @@
 -- `digits_in` meets its contract: its test is the definition's.
 use mathlib.Core.Path.{refl, sym, subst}
-use Prim.Native.Nat.{ℕ, _≤_}
+use Prim.Native.Nat.{_≤_}
 use native.Mathlib.Omega.{arith}
 use borrow.Author.Needs.{needs}
 use Rattle.paper.proofs.Choice.{same, other}

@@ -1,7 +1,6 @@
 -- `find` meets its contract. The loop's invariant: what the name means hangs on the lines from there on.
 -- The measure is what is left of the lines.
-use mathlib.Core.Bool.{Bool, _&&_}
-use mathlib.Core.List.{List}
+use mathlib.Core.Bool.{_&&_}
 use mathlib.Core.Path.{_≡_, refl, ap, sym, _∙_}
 use Prim.Native.Nat.{ℕ, _-_, _/_, _%_}
 use native.Mathlib.Omega.{arith}

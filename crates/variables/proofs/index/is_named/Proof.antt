@@ -1,6 +1,5 @@
 -- `is_named` meets its contract: names are compared only where the keys are equal.
 use mathlib.Core.Path.{ap, _∙_}
-use mathlib.Core.Bool.{_&&_}
 use borrow.Author.Needs.{needs}
 use borrow.Author.Tests.{eq-eqb, ne-eqb}
 use Rattle.variables.specs.Records.{nameAt, sameName}

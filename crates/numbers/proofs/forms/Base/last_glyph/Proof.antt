@@ -1,6 +1,6 @@
 -- `last_glyph` meets its contract: its test is the definition's.
-use mathlib.Core.Path.{refl, ap, sym, subst, _∙_}
-use Prim.Native.Nat.{ℕ, _<_, _≤_}
+use mathlib.Core.Path.{refl, ap, _∙_}
+use Prim.Native.Nat.{_<_}
 use native.Mathlib.Nat.{mod-lt}
 use native.Mathlib.Omega.{arith}
 use borrow.Author.Needs.{needs}
