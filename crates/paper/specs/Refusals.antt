@@ -1,5 +1,9 @@
 -- The refusal numbers by name, and the longest text or table that is read.
+use mathlib.Core.Bool.{Bool}
+use mathlib.Core.List.{List}
 use Prim.Native.Nat.{ℕ}
+use lib.Dec.{ltb}
+use lib.ListN.{length}
 
 abbrev pub no-room : ℕ
 no-room = 1
@@ -58,3 +62,7 @@ over-length = 18
 -- in bytes
 abbrev pub longest : ℕ
 longest = 65535
+
+-- a text or a table that is over it, counted to the end of the lent slice
+abbrev pub tooLong : List ℕ → Bool
+tooLong bytes = ltb longest (length bytes)
