@@ -7,15 +7,15 @@ use native.Mathlib.Decide.{decLt}
 use native.Mathlib.Omega.{arith}
 use lib.Dec.{ltb}
 use lib.ListN.{length}
-use Rattle.paper.specs.Answers.{Answer, Grown}
+use Rattle.paper.specs.Answers.{in-text, Answer, Grown}
 use Rattle.paper.specs.Refusals.{no-room, allowance-spent}
-use Rattle.paper.specs.Traces.{numberOf, Trace, ended, refused, gives, asks, spends, enters, bytes, Run, finished, stopped, behind, spending, run, fit, answer, Ending, done, failed, beyond, ending, reached, lookUps}
+use Rattle.paper.specs.Traces.{faultNumber, Trace, ended, faults, gives, asks, spends, enters, bytes, Run, finished, refused, onward, spending, run, fit, answer, Ending, done, faulted, beyond, ending, reached, lookUps}
 use Rattle.paper.specs.declared.faults.Fault.{Fault}
 use Rattle.paper.specs.declared.faults.Fault.the-variants.{NoDigit, BadBase, TooBig, BadCode, BadString, BadReference, UnknownName, TooDeep, BadExpression, ZeroDivisor, NotAnInteger}
 use Rattle.paper.proofs.Choice.{below, not-below, either}
 
 -- no fault has the number of No room or of Allowance spent
-pub fault-number : (f : Fault) → (1 < numberOf f) × (numberOf f ≡ allowance-spent → ⊥) × (numberOf f ≤ 17)
+pub fault-number : (f : Fault) → (1 < faultNumber f) × (faultNumber f ≡ allowance-spent → ⊥) × (faultNumber f ≤ 255)
 fault-number NoDigit = omega arith
 fault-number BadBase = omega arith
 fault-number TooBig = omega arith
@@ -28,77 +28,77 @@ fault-number BadExpression = omega arith
 fault-number ZeroDivisor = omega arith
 fault-number NotAnInteger = omega arith
 
--- a run that stopped has the number of a fault or of Allowance spent, never that of an accepted answer or of No room
-record Stops (r : Run) : Type 0 where
-  number : (n place : ℕ) → r ≡ stopped n place → (1 < n) × (n ≤ 17)
+-- a run that is refused has the number of a fault or of Allowance spent, never that of an accepted answer or of No room
+record Numbered (r : Run) : Type 0 where
+  number : (n place : ℕ) → r ≡ refused n place → (1 < n) × (n ≤ 255)
 
-finished-stops : (end left : ℕ) → Stops (finished end left)
-finished-stops end left = record { number = λ n place e. absurd (clash n place e) }
+finished-numbered : (end left : ℕ) → Numbered (finished end left)
+finished-numbered end left = record { number = λ n place e. absurd (clash n place e) }
   where
-    clash : (n place : ℕ) → finished end left ≡ stopped n place → ⊥
+    clash : (n place : ℕ) → finished end left ≡ refused n place → ⊥
     clash n place e = let z : _≡_ {A = ℕ} 0 1 = cc in omega arith
 
-stopped-stops : (number place : ℕ) → (1 < number) × (number ≤ 17) → Stops (stopped number place)
-stopped-stops number place over = record { number = λ n q e. same n q e }
+refused-numbered : (number place : ℕ) → (1 < number) × (number ≤ 255) → Numbered (refused number place)
+refused-numbered number place over = record { number = λ n q e. same n q e }
   where
-    same : (n q : ℕ) → stopped number place ≡ stopped n q → (1 < n) × (n ≤ 17)
+    same : (n q : ℕ) → refused number place ≡ refused n q → (1 < n) × (n ≤ 255)
     same n q e = let s : number ≡ n = cc in omega (arith, over)
 
-behind-stops : (r : Run) (place : ℕ) (rest : ℕ → Run) → Stops r → ((left : ℕ) → Stops (rest left)) → Stops (behind r place rest)
-behind-stops (finished end left) place rest s f = f left
-behind-stops (stopped number inner) place rest s f = stopped-stops number place (s .number number inner refl)
+onward-numbered : (r : Run) (place : ℕ) (rest : ℕ → Run) → Numbered r → ((left : ℕ) → Numbered (rest left)) → Numbered (onward r place rest)
+onward-numbered (finished end left) place rest s f = f left
+onward-numbered (refused number inner) place rest s f = refused-numbered number place (s .number number inner refl)
 
-run-stops : (t : Trace) (left : ℕ) → Stops (run t left)
-run-stops (ended end) left = finished-stops end left
-run-stops (refused fault place) left = stopped-stops (numberOf fault) place (fault-number fault .0, fault-number fault .2)
-run-stops (gives byte rest) left = run-stops rest left
-run-stops (asks name rest) left = run-stops rest left
-run-stops (spends place rest) zero = stopped-stops allowance-spent place (omega arith)
-run-stops (spends place rest) (suc left) = run-stops rest left
-run-stops (enters reference value rest) left = behind-stops (run value left) (reference .place) (run rest) (run-stops value left) (run-stops rest)
+run-numbered : (t : Trace) (left : ℕ) → Numbered (run t left)
+run-numbered (ended end) left = finished-numbered end left
+run-numbered (faults fault place) left = refused-numbered (faultNumber fault) place (fault-number fault .0, fault-number fault .2)
+run-numbered (gives byte rest) left = run-numbered rest left
+run-numbered (asks name rest) left = run-numbered rest left
+run-numbered (spends place rest) zero = refused-numbered allowance-spent place (omega arith)
+run-numbered (spends place rest) (suc left) = run-numbered rest left
+run-numbered (enters reference value rest) left = onward-numbered (run value left) (reference .place) (run rest) (run-numbered value left) (run-numbered rest)
 
-pub stopped-number : (t : Trace) (left number place : ℕ) → run t left ≡ stopped number place → (1 < number) × (number ≤ 17)
-stopped-number t left number place e = run-stops t left .number number place e
+pub refused-number : (t : Trace) (left number place : ℕ) → run t left ≡ refused number place → (1 < number) × (number ≤ 255)
+refused-number t left number place e = run-numbered t left .number number place e
 
 -- the run that reaches where the reading leads, with so many look-ups left
 abbrev with-left : ℕ → Ending → Run
 with-left left (done end) = finished end left
-with-left left (failed fault place) = stopped (numberOf fault) place
+with-left left (faulted fault place) = refused (faultNumber fault) place
 
-behind-ending : (o : Ending) (place more : ℕ) (rest : Trace)
+onward-ending : (o : Ending) (place more : ℕ) (rest : Trace)
     → run rest (lookUps rest + more) ≡ with-left more (ending rest)
-    → behind (with-left (reached o (lookUps rest) + more) o) place (run rest) ≡ with-left more (beyond o place (ending rest))
-behind-ending (done end) place more rest h = h
-behind-ending (failed fault inner) place more rest h = refl
+    → onward (with-left (reached o (lookUps rest) + more) o) place (run rest) ≡ with-left more (beyond o place (ending rest))
+onward-ending (done end) place more rest h = h
+onward-ending (faulted fault inner) place more rest h = refl
 
 -- with enough look-ups the run goes where the reading leads
 pub enough : (t : Trace) (more : ℕ) → run t (lookUps t + more) ≡ with-left more (ending t)
 enough (ended end) more = ap (finished end) (zero-add more)
-enough (refused fault place) more = refl
+enough (faults fault place) more = refl
 enough (gives byte rest) more = enough rest more
 enough (asks name rest) more = enough rest more
 enough (spends place rest) more = ap (λ n. spending place n (run rest)) (suc-add (lookUps rest) more) ∙ enough rest more
 enough (enters reference value rest) more =
-    ap (λ n. behind (run value n) (reference .place) (run rest)) (add-assoc (lookUps value) (reached (ending value) (lookUps rest)) more)
-    ∙ ap (λ r. behind r (reference .place) (run rest)) (enough value (reached (ending value) (lookUps rest) + more))
-    ∙ behind-ending (ending value) (reference .place) more rest (enough rest more)
+    ap (λ n. onward (run value n) (reference .place) (run rest)) (add-assoc (lookUps value) (reached (ending value) (lookUps rest)) more)
+    ∙ ap (λ r. onward r (reference .place) (run rest)) (enough value (reached (ending value) (lookUps rest) + more))
+    ∙ onward-ending (ending value) (reference .place) more rest (enough rest more)
 
--- with too few it stops at Allowance spent
+-- with too few it is refused with Allowance spent
 record Spent (r : Run) : Type 0 where
   place : ℕ
-  is : r ≡ stopped allowance-spent place
+  is : r ≡ refused allowance-spent place
 
-spent-behind : (r : Run) (place : ℕ) (rest : ℕ → Run) → Spent r → Spent (behind r place rest)
-spent-behind r place rest s = record { place = place; is = ap (λ r. behind r place rest) (s .is) }
+spent-onward : (r : Run) (place : ℕ) (rest : ℕ → Run) → Spent r → Spent (onward r place rest)
+spent-onward r place rest s = record { place = place; is = ap (λ r. onward r place rest) (s .is) }
 
 spent-rest : (o : Ending) (place m : ℕ) (rest : Trace) → m < reached o (lookUps rest) → (m < lookUps rest → Spent (run rest m))
-    → Spent (behind (with-left m o) place (run rest))
+    → Spent (onward (with-left m o) place (run rest))
 spent-rest (done end) place m rest less h = h less
-spent-rest (failed fault inner) place m rest less h = absurd (omega arith)
+spent-rest (faulted fault inner) place m rest less h = absurd (omega arith)
 
 too-few : (t : Trace) (left : ℕ) → left < lookUps t → Spent (run t left)
 too-few (ended end) left less = absurd (omega arith)
-too-few (refused fault place) left less = absurd (omega arith)
+too-few (faults fault place) left less = absurd (omega arith)
 too-few (gives byte rest) left less = too-few rest left less
 too-few (asks name rest) left less = too-few rest left less
 too-few (spends place rest) zero less = record { place = place; is = refl }
@@ -106,12 +106,12 @@ too-few (spends place rest) (suc left) less = too-few rest left (omega arith)
 too-few (enters reference value rest) left less = go (decLt left (lookUps value)) (too-few value left) (λ m. too-few rest m)
   where
     go : Dec (left < lookUps value) → (left < lookUps value → Spent (run value left)) → ((m : ℕ) → m < lookUps rest → Spent (run rest m))
-        → Spent (behind (run value left) (reference .place) (run rest))
-    go (yes p) inner outer = spent-behind (run value left) (reference .place) (run rest) (inner p)
+        → Spent (onward (run value left) (reference .place) (run rest))
+    go (yes p) inner outer = spent-onward (run value left) (reference .place) (run rest) (inner p)
     go (no p) inner outer =
         let m : ℕ = left - lookUps value in
         let split : lookUps value + m ≡ left = omega arith in
-        subst (λ r. Spent (behind r (reference .place) (run rest))) (sym (enough value m) ∙ ap (run value) split)
+        subst (λ r. Spent (onward r (reference .place) (run rest))) (sym (enough value m) ∙ ap (run value) split)
         (spent-rest (ending value) (reference .place) m rest (omega arith) (outer m))
 
 -- a run that finished went where the reading leads, within its look-ups
@@ -123,7 +123,7 @@ finished-within t left end left′ e = go (decLt left (lookUps t))
 
     led : (o : Ending) (m : ℕ) → with-left m o ≡ finished end left′ → o ≡ done end
     led (done f) m h = ap done (cc)
-    led (failed fault place) m h = let z : _≡_ {A = ℕ} 0 1 = cc in absurd (omega arith)
+    led (faulted fault place) m h = let z : _≡_ {A = ℕ} 0 1 = cc in absurd (omega arith)
 
     go : Dec (left < lookUps t) → (lookUps t ≤ left) × (ending t ≡ done end)
     go (yes p) = absurd (spent (too-few t left p))
@@ -132,10 +132,10 @@ finished-within t left end left′ e = go (decLt left (lookUps t))
         let split : lookUps t + m ≡ left = omega arith in
         (omega arith, led (ending t) m (sym (enough t m) ∙ ap (run t) split ∙ e))
 
--- the number that a run stops with, 0 where it finished
-abbrev pub stopNumber : Run → ℕ
-stopNumber (finished end left) = 0
-stopNumber (stopped number place) = number
+-- the number that a run is refused with, 0 where it finished
+abbrev pub runNumber : Run → ℕ
+runNumber (finished end left) = 0
+runNumber (refused number place) = number
 
 -- what is made of a run and does not see how many look-ups are left
 pub record Blind {A : Type 0} (of : Run → A) : Type 0 where
@@ -143,7 +143,7 @@ pub record Blind {A : Type 0} (of : Run → A) : Type 0 where
 
 blind-left : {A : Type 0} (of : Run → A) → Blind of → (o : Ending) (left left′ : ℕ) → of (with-left left o) ≡ of (with-left left′ o)
 blind-left of b (done end) left left′ = b .same end left left′
-blind-left of b (failed fault place) left left′ = refl
+blind-left of b (faulted fault place) left left′ = refl
 
 module _ (t : Trace) where
   -- a run with look-ups enough goes where the reading leads
@@ -153,24 +153,24 @@ module _ (t : Trace) where
       let split : lookUps t + m ≡ allowance = omega arith in
       ap of (ap (run t) (sym split) ∙ enough t m) ∙ blind-left of b (ending t) m 0
 
-  spent-run : (allowance : ℕ) → allowance < lookUps t → stopNumber (run t allowance) ≡ allowance-spent
-  spent-run allowance h = ap stopNumber (too-few t allowance h .is)
+  spent-run : (allowance : ℕ) → allowance < lookUps t → runNumber (run t allowance) ≡ allowance-spent
+  spent-run allowance h = ap runNumber (too-few t allowance h .is)
 
-  led-number : (o : Ending) → stopNumber (with-left 0 o) ≡ allowance-spent → ⊥
+  led-number : (o : Ending) → runNumber (with-left 0 o) ≡ allowance-spent → ⊥
   led-number (done end) = λ e. omega arith
-  led-number (failed fault place) = fault-number fault .1
+  led-number (faulted fault place) = fault-number fault .1
 
-  -- a run stops at Allowance spent exactly when the reading reaches one look-up more than allowed before any other refusal
-  pub run-spent : (allowance : ℕ) → (stopNumber (run t allowance) ≡ allowance-spent) ↔ (allowance < lookUps t)
+  -- a run is refused with Allowance spent exactly when the reading reaches one look-up more than allowed before any other refusal
+  pub run-spent : (allowance : ℕ) → (runNumber (run t allowance) ≡ allowance-spent) ↔ (allowance < lookUps t)
   run-spent allowance = (λ e. less e (decLt allowance (lookUps t)), spent-run allowance)
     where
-      less : stopNumber (run t allowance) ≡ allowance-spent → Dec (allowance < lookUps t) → allowance < lookUps t
+      less : runNumber (run t allowance) ≡ allowance-spent → Dec (allowance < lookUps t) → allowance < lookUps t
       less e (yes p) = p
       less e (no p) =
-          absurd (led-number (ending t) (sym (reaches stopNumber (record { same = λ end l l′. refl }) allowance (omega arith)) ∙ e))
+          absurd (led-number (ending t) (sym (reaches runNumber (record { same = λ end l l′. refl }) allowance (omega arith)) ∙ e))
 
   -- what is made of any other run stays the same under every larger allowance
-  pub run-more : {A : Type 0} (of : Run → A) → Blind of → (allowance more : ℕ) → (stopNumber (run t allowance) ≡ allowance-spent → ⊥)
+  pub run-more : {A : Type 0} (of : Run → A) → Blind of → (allowance more : ℕ) → (runNumber (run t allowance) ≡ allowance-spent → ⊥)
       → of (run t (allowance + more)) ≡ of (run t allowance)
   run-more of b allowance more n = go (decLt allowance (lookUps t))
     where
@@ -182,11 +182,11 @@ fit-blind : (need room : ℕ) → Blind (λ r. fit r need room)
 fit-blind need room = record { same = λ end l l′. refl }
 
 -- an answer's number is Allowance spent exactly where its run's is
-fit-spent : (r : Run) (need room : ℕ) → (fit r need room .number ≡ allowance-spent) ↔ (stopNumber r ≡ allowance-spent)
+fit-spent : (r : Run) (need room : ℕ) → (fit r need room .number ≡ allowance-spent) ↔ (runNumber r ≡ allowance-spent)
 fit-spent (finished end left) need room =
     either (λ (a : Answer). (a .number ≡ allowance-spent) ↔ (0 ≡ allowance-spent)) (ltb room need)
     (λ _. (λ e. omega arith, λ e. omega arith)) (λ _. (λ e. omega arith, λ e. omega arith))
-fit-spent (stopped number place) need room = (λ e. e, λ e. e)
+fit-spent (refused number place) need room = (λ e. e, λ e. e)
 
 module _ (t : Trace) where
   -- the answer where the look-ups are enough
@@ -217,11 +217,11 @@ Succeeds t = (end : ℕ) × (ending t ≡ done end)
 
 -- a finished run is refused for want of room, or accepted
 refused-fit : (end left need room : ℕ) → room < need
-    → record { number = no-room; place = 0; need = need; free = room } ≡ fit (finished end left) need room
+    → record { number = no-room; counted = in-text; place = 0; need = need; free = room } ≡ fit (finished end left) need room
 refused-fit end left need room h = below room need _ _ h refl
 
 accepted-fit : (end left need room : ℕ) → need ≤ room
-    → record { number = 0; place = end; need = need; free = room - need } ≡ fit (finished end left) need room
+    → record { number = 0; counted = in-text; place = end; need = need; free = room - need } ≡ fit (finished end left) need room
 accepted-fit end left need room h = not-below room need _ _ h refl
 
 fit-room : (o : Ending) (left need room : ℕ)
@@ -232,14 +232,14 @@ fit-room (done end) left need room =
     over : fit (finished end left) need room .number ≡ no-room → Dec (room < need) → room < need
     over e (yes p) = p
     over e (no p) = absurd (omega (arith, ap (λ (a : Answer). a .number) (accepted-fit end left need room (omega arith))))
-fit-room (failed fault place) left need room =
+fit-room (faulted fault place) left need room =
     (λ e. absurd (omega (arith, fault-number fault)), λ s. absurd (clash (s .0 .0) (s .0 .1)))
   where
-    clash : (end : ℕ) → failed fault place ≡ done end → ⊥
+    clash : (end : ℕ) → faulted fault place ≡ done end → ⊥
     clash end e = let z : _≡_ {A = ℕ} 0 1 = cc in omega arith
 
 fit-grows : (r : Run) (need room more : ℕ) → (fit r need room .number ≡ no-room → ⊥) → Grown more (fit r need room) (fit r need (room + more))
-fit-grows (stopped number place) need room more n = record { number = refl; place = refl; need = refl; free = refl }
+fit-grows (refused number place) need room more n = record { number = refl; counted = refl; place = refl; need = refl; free = refl }
 fit-grows (finished end left) need room more n = go (decLt room need)
   where
     go : Dec (room < need) → Grown more (fit (finished end left) need room) (fit (finished end left) need (room + more))
@@ -247,7 +247,7 @@ fit-grows (finished end left) need room more n = go (decLt room need)
     go (no p) =
         let fits : need ≤ room = omega arith in
         subst₂ (Grown more) (accepted-fit end left need room fits) (accepted-fit end left need (room + more) (omega arith))
-        (record { number = refl; place = refl; need = refl; free = omega arith })
+        (record { number = refl; counted = refl; place = refl; need = refl; free = omega arith })
 
 -- No room comes exactly when the reading succeeds within its allowance and needs more than the room
 pub no-room-exactly : (t : Trace) (allowance room : ℕ)
@@ -280,3 +280,25 @@ no-room-need t allowance room e =
 pub more-room : (t : Trace) (allowance room more : ℕ) → (answer t allowance room .number ≡ no-room → ⊥)
     → Grown more (answer t allowance room) (answer t allowance (room + more))
 more-room t allowance room more = fit-grows (run t allowance) (length (bytes t)) room more
+
+module _ (t : Trace) (allowance room : ℕ) where
+  -- room and allowance together: an answer other than these two stays the same, its free up by exactly the room added
+  pub more-of-both : (look-ups more : ℕ) → (answer t allowance room .number ≡ no-room → ⊥) → (answer t allowance room .number ≡ allowance-spent → ⊥)
+      → Grown more (answer t allowance room) (answer t (allowance + look-ups) (room + more))
+  more-of-both look-ups more n m =
+      let g = more-room t allowance room more n in
+      subst (Grown more (answer t allowance room))
+      (sym (more-allowance t allowance look-ups (room + more) (λ e. m (sym (g .number) ∙ e)))) g
+
+  -- the need of No room does not change with the allowance
+  pub need-stays : (look-ups : ℕ) → answer t allowance room .number ≡ no-room → answer t (allowance + look-ups) room ≡ answer t allowance room
+  need-stays look-ups e = more-allowance t allowance look-ups room (λ s. absurd (omega arith))
+
+  -- with the room that No room carries, and any larger one, the answer is accepted
+  pub second-ask : (room′ : ℕ) → answer t allowance room .number ≡ no-room → answer t allowance room .need ≤ room′ → answer t allowance room′ .number ≡ 0
+  second-ask room′ e enough-room =
+      let s = no-room-exactly t allowance room .0 e in
+      let fits : length (bytes t) ≤ room′ = omega (arith, no-room-need t allowance room e) in
+      ap (λ (a : Answer). a .number) (reading-answer t allowance room′ (s .0))
+      ∙ ap (λ o. fit (with-left 0 o) (length (bytes t)) room′ .number) (s .1 .1)
+      ∙ sym (ap (λ (a : Answer). a .number) (accepted-fit (s .1 .0) 0 (length (bytes t)) room′ fits))

@@ -3,4 +3,5 @@ pub mod Refusals
 pub mod Bytes
 pub mod Texts
 pub mod Answers
+pub mod Layings
 pub mod Traces

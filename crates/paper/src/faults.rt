@@ -1,6 +1,6 @@
 // What a reading itself can be refused for. No room and Allowance spent are not among these: they come from outside the reading.
 ghost use mathlib.Core.Path.{_≡_};
-ghost use Rattle.paper.specs.Traces.{numberOf};
+ghost use Rattle.paper.specs.Traces.{faultNumber};
 
 pub enum Fault {
     NoDigit,
@@ -18,7 +18,7 @@ pub enum Fault {
 
 impl Fault {
     pub fn number(self) -> u8
-        ensures { λ r. ⌜ r ≡ numberOf self ⌝ }
+        ensures { λ r. ⌜ r ≡ faultNumber self ⌝ }
     {
         match self {
             Fault::NoDigit => crate::NO_DIGIT,
