@@ -9,7 +9,7 @@ use lib.Dec.{ltb}
 use lib.ListN.{length}
 use Rattle.paper.specs.Answers.{in-text, Answer, Grown}
 use Rattle.paper.specs.Refusals.{no-room, allowance-spent}
-use Rattle.paper.specs.Traces.{faultNumber, Trace, ended, faults, gives, asks, spends, enters, bytes, Run, finished, refused, onward, spending, run, fit, answer, Ending, done, faulted, beyond, ending, reached, lookUps}
+use Rattle.paper.specs.Traces.{faultNumber, Trace, ended, faults, gives, asks, spends, enters, bytes, Run, finished, refused, onward, spending, run, runNumber, fit, answer, Ending, done, faulted, beyond, ending, Succeeds, reached, lookUps}
 use Rattle.paper.specs.declared.faults.Fault.{Fault}
 use Rattle.paper.specs.declared.faults.Fault.the-variants.{NoDigit, BadBase, TooBig, BadCode, BadString, BadReference, UnknownName, TooDeep, BadExpression, ZeroDivisor, NotAnInteger}
 use Rattle.paper.proofs.Choice.{below, not-below, either}
@@ -132,11 +132,6 @@ finished-within t left end left′ e = go (decLt left (lookUps t))
         let split : lookUps t + m ≡ left = omega arith in
         (omega arith, led (ending t) m (sym (enough t m) ∙ ap (run t) split ∙ e))
 
--- the number that a run is refused with, 0 where it finished
-abbrev pub runNumber : Run → ℕ
-runNumber (finished end left) = 0
-runNumber (refused number place) = number
-
 -- what is made of a run and does not see how many look-ups are left
 pub record Blind {A : Type 0} (of : Run → A) : Type 0 where
   pub same : (end left left′ : ℕ) → of (finished end left) ≡ of (finished end left′)
@@ -210,10 +205,6 @@ module _ (t : Trace) where
   more-allowance allowance more room n =
       run-more t (λ r. fit r (length (bytes t)) room) (fit-blind (length (bytes t)) room) allowance more
       (λ e. n (fit-spent (run t allowance) (length (bytes t)) room .1 e))
-
--- the reading succeeds
-abbrev pub Succeeds : Trace → Type 0
-Succeeds t = (end : ℕ) × (ending t ≡ done end)
 
 -- a finished run is refused for want of room, or accepted
 refused-fit : (end left need room : ℕ) → room < need

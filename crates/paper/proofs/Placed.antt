@@ -1,7 +1,7 @@
 -- Where a trace's places lie: a run ends or is refused at one of them.
 use mathlib.Core.List.{List}
 use Prim.Native.Nat.{ℕ, zero, suc, _≤_}
-use Rattle.paper.specs.Traces.{Reference, Trace, ended, faults, gives, asks, spends, enters, Run, finished, refused, onward, spending, run}
+use Rattle.paper.specs.Traces.{Reference, Trace, ended, faults, gives, asks, spends, enters, Run, finished, refused, onward, spending, run, runPlace}
 use Rattle.paper.specs.declared.faults.Fault.{Fault}
 
 -- every place of this level lies in a text of so many bytes, and so do those of the macros' values in theirs
@@ -13,10 +13,6 @@ pub data Placed : ℕ → Trace → Type 0 where
   spends-at : {size : ℕ} {place : ℕ} {rest : Trace} → place ≤ size → Placed size rest → Placed size (spends place rest)
   enters-at : {size inner : ℕ} {reference : Reference} {value rest : Trace} → reference .place ≤ size → Placed inner value → Placed size rest
       → Placed size (enters reference value rest)
-
-abbrev pub runPlace : Run → ℕ
-runPlace (finished end left) = end
-runPlace (refused number place) = place
 
 onward-placed : (r : Run) (size place : ℕ) (rest : ℕ → Run) → place ≤ size → ((left : ℕ) → runPlace (rest left) ≤ size) → runPlace (onward r place rest) ≤ size
 onward-placed (finished end left) size place rest p f = f left

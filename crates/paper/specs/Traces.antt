@@ -1,5 +1,6 @@
 -- A reading as a trace of what happens, which knows neither the room nor the allowance; its run under an allowance; its answer.
 use mathlib.Core.Bool.{cond}
+use mathlib.Core.Path.{_≡_}
 use mathlib.Core.List.{List, [], _∷_, _++_}
 use Prim.Native.Nat.{ℕ, zero, suc, _+_, _-_, min}
 use lib.Dec.{ltb}
@@ -73,6 +74,15 @@ run (asks name rest) left = run rest left
 run (spends place rest) left = spending place left (run rest)
 run (enters reference value rest) left = onward (run value left) (reference .place) (run rest)
 
+-- the paper's numbers of a run: the refusal's, 0 where it finished, and the place of the refusal or of the text's end
+abbrev pub runNumber : Run → ℕ
+runNumber (finished end left) = 0
+runNumber (refused number place) = number
+
+abbrev pub runPlace : Run → ℕ
+runPlace (finished end left) = end
+runPlace (refused number place) = place
+
 -- what a run gathers on its way: behind a look-up that is not allowed nothing more, nor behind a macro that was refused
 abbrev pub allowedOn : {A : Type 0} → ℕ → (ℕ → List A) → List A
 allowedOn zero rest = []
@@ -130,6 +140,10 @@ ending (gives byte rest) = ending rest
 ending (asks name rest) = ending rest
 ending (spends place rest) = ending rest
 ending (enters reference value rest) = beyond (ending value) (reference .place) (ending rest)
+
+-- the reading succeeds: it comes to the text's end
+abbrev pub Succeeds : Trace → Type 0
+Succeeds trace = (end : ℕ) × (ending trace ≡ done end)
 
 -- how many look-ups the reading reaches before that
 abbrev pub reached : Ending → ℕ → ℕ
