@@ -293,3 +293,24 @@ module _ (t : Trace) (allowance room : ℕ) where
       ap (λ (a : Answer). a .number) (reading-answer t allowance room′ (s .0))
       ∙ ap (λ o. fit (with-left 0 o) (length (bytes t)) room′ .number) (s .1 .1)
       ∙ sym (ap (λ (a : Answer). a .number) (accepted-fit (s .1 .0) 0 (length (bytes t)) room′ fits))
+
+-- a refusal's free is the room, and its need is 0 but for No room
+fit-refused : (r : Run) (need room : ℕ) → (fit r need room .number ≡ 0 → ⊥)
+    → (fit r need room .free ≡ room) × ((fit r need room .number ≡ no-room → ⊥) → fit r need room .need ≡ 0)
+fit-refused (refused number place) need room = λ n. (refl, λ _. refl)
+fit-refused (finished end left) need room =
+    either (λ (a : Answer). (a .number ≡ 0 → ⊥) → (a .free ≡ room) × ((a .number ≡ no-room → ⊥) → a .need ≡ 0)) (ltb room need)
+    (λ _ n. (refl, λ m. absurd (m refl))) (λ _ n. absurd (n refl))
+
+pub refused-answer : (t : Trace) (allowance room : ℕ) → (answer t allowance room .number ≡ 0 → ⊥)
+    → (answer t allowance room .free ≡ room) × ((answer t allowance room .number ≡ no-room → ⊥) → answer t allowance room .need ≡ 0)
+refused-answer t allowance room = fit-refused (run t allowance) (length (bytes t)) room
+
+-- an accepted answer's need is the number of the bytes given
+pub accepted-need : (t : Trace) (allowance room : ℕ) → answer t allowance room .number ≡ 0 → answer t allowance room .need ≡ length (bytes t)
+accepted-need t allowance room = go (run t allowance) refl
+  where
+    go : (r : Run) → run t allowance ≡ r → fit r (length (bytes t)) room .number ≡ 0 → fit r (length (bytes t)) room .need ≡ length (bytes t)
+    go (refused number place) e = λ z. absurd (omega (arith, refused-number t allowance number place e))
+    go (finished end left) e =
+        either (λ (a : Answer). a .number ≡ 0 → a .need ≡ length (bytes t)) (ltb room (length (bytes t))) (λ _ z. refl) (λ _ z. refl)

@@ -1,10 +1,10 @@
--- What each public contract allows: an answer, and what a lent buffer holds afterwards.
+-- What each operation's contract allows: an answer, and what a lent buffer holds afterwards.
 use mathlib.Core.Path.{_≡_}
 use mathlib.Core.Bool.{Bool}
 use mathlib.Core.List.{List}
 use Prim.Native.Nat.{ℕ}
 use lib.ListN.{length}
-use Rattle.numbers.specs.Calls.{answerOf, bufferOf}
+use Rattle.numbers.specs.Calls.{answerOf, bufferOf, convertedBy}
 use Rattle.numbers.specs.declared.Converted.{Converted}
 use Rattle.reader.specs.Reading.{reading}
 use Rattle.reader.specs.declared.Reading.{Reading}
@@ -18,7 +18,7 @@ use Rattle.expressions.specs.declared.Evaluated.{Evaluated}
 
 -- `convert`
 pub record Converts (call value : ℕ) (buf : List ℕ) (r : Converted) (after : List ℕ) : Type 0 where
-  pub answer : r ≡ answerOf call value (length buf)
+  pub answer : r ≡ convertedBy (answerOf call value (length buf))
   pub buffer : after ≡ bufferOf call value buf
 
 -- `read_unsigned`

@@ -1,8 +1,10 @@
 -- What the library promises, over what the contracts allow.
 pub mod Allowed
+pub mod Ties
 pub mod Examples
 pub mod Conversions
 pub mod Readings
 pub mod Lookups
 pub mod Translations
 pub mod Evaluations
+pub mod Promises

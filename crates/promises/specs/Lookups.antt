@@ -3,11 +3,9 @@ use mathlib.Core.Path.{_≡_}
 use mathlib.Core.List.{List, List·Memᴰ}
 use Prim.Native.Nat.{ℕ, _+_, _≤_}
 use lib.ListN.{length}
-use Rattle.variables.specs.Tables.{numberOf, foundNumber, checkNumbers, lookUpNumbers}
+use Rattle.variables.specs.Tables.{checkNumber, checkCount, foundNumber, foundStart, foundLength, checkNumbers, lookUpNumbers, recordsOf}
 use Rattle.variables.specs.declared.Checked.{Checked}
 use Rattle.variables.specs.declared.Found.{Found}
-use Rattle.variables.specs.declared.Found.the-variants.{At}
-use Rattle.variables.specs.declared.Variable.{Variable}
 use Rattle.promises.specs.Allowed.{Checks, LooksUp}
 
 -- one answer each
@@ -19,11 +17,11 @@ OneFound = (table name : List ℕ) (r r′ : Found) → LooksUp table name r →
 
 -- Demand 1: good, or one of the listed refusals; found, or one of them or unknown
 abbrev pub CheckRefusals : Type 0
-CheckRefusals = (table : List ℕ) (r : Checked) → Checks table r → List·Memᴰ (numberOf r) checkNumbers
+CheckRefusals = (table : List ℕ) (r : Checked) → Checks table r → List·Memᴰ (checkNumber r) checkNumbers
 
 abbrev pub LookUpRefusals : Type 0
 LookUpRefusals = (table name : List ℕ) (r : Found) → LooksUp table name r → List·Memᴰ (foundNumber r) lookUpNumbers
 
 -- the value of what was found lies inside the table
 abbrev pub Inside : Type 0
-Inside = (table name : List ℕ) (v : Variable) → LooksUp table name (At v) → v .start + v .length ≤ length table
+Inside = (table name : List ℕ) (r : Found) → LooksUp table name r → foundNumber r ≡ 0 → foundStart r + foundLength r ≤ length table

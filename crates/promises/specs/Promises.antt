@@ -1,0 +1,54 @@
+-- Everything that is promised, as one record: what has it keeps every promise.
+use Rattle.promises.specs.Ties as Ties
+use Rattle.promises.specs.Examples.{All, examples}
+use Rattle.promises.specs.Conversions as Conversions
+use Rattle.promises.specs.Readings as Readings
+use Rattle.promises.specs.Lookups as Lookups
+use Rattle.promises.specs.Translations as Translations
+use Rattle.promises.specs.Evaluations as Evaluations
+
+pub record Promises : Type 0 where
+  pub worked-examples : All examples
+  -- `convert`
+  pub convert-tied : Ties.Convert
+  pub convert-one-answer : Conversions.OneAnswer
+  pub convert-refusals : Conversions.Refusals
+  pub convert-exact : Conversions.Exact
+  pub convert-offset-and-free : Conversions.OffsetAndFree
+  pub convert-bytes : Conversions.Bytes
+  pub convert-reads-back : Conversions.ReadsBack
+  pub convert-larger-room : Conversions.LargerRoom
+  pub convert-second-ask : Conversions.SecondAsk
+  -- `read_unsigned`
+  pub read-tied : Ties.ReadUnsigned
+  pub read-one-answer : Readings.OneAnswer
+  pub read-refusals : Readings.Refusals
+  -- `check_table` and `look_up`
+  pub check-tied : Ties.CheckTable
+  pub check-one-answer : Lookups.OneCheck
+  pub check-refusals : Lookups.CheckRefusals
+  pub check-records : Lookups.Records
+  pub look-up-tied : Ties.LookUp
+  pub look-up-one-answer : Lookups.OneFound
+  pub look-up-refusals : Lookups.LookUpRefusals
+  pub look-up-inside : Lookups.Inside
+  -- `translate`
+  pub translate-tied : Ties.Translate
+  pub translate-one-answer : Translations.OneAnswer
+  pub translate-refusals : Translations.Refusals
+  pub translate-kept : Translations.Kept
+  pub translate-bytes : Translations.Bytes
+  pub translate-by-reading : Translations.ByReading
+  pub translate-larger : Translations.Larger
+  pub translate-no-room : Translations.NoRoom
+  pub translate-need : Translations.Need
+  pub translate-spent : Translations.Spent
+  pub translate-second-ask : Translations.SecondAsk
+  -- `evaluate`
+  pub evaluate-tied : Ties.Evaluate
+  pub evaluate-one-answer : Evaluations.OneAnswer
+  pub evaluate-refusals : Evaluations.Refusals
+  pub evaluate-valued : Evaluations.Valued
+  pub evaluate-by-reading : Evaluations.ByReading
+  pub evaluate-larger : Evaluations.Larger
+  pub evaluate-spent : Evaluations.Spent
