@@ -24,20 +24,22 @@ pub sets-if : (wanted : Bool) (l : List ℕ) (at x : ℕ) → cond wanted (set l
 sets-if true l at x = refl
 sets-if false l at x = refl
 
--- a middle, then a sign before it, then an end behind both: the whole string, and the rest as it was
-pub assembled : (old sign middle end : List ℕ) (len : ℕ) → len ≡ length sign + length middle → len + length end ≤ length old
-    → sets (sets (take (length sign) old ++ (middle ++ drop len old)) 0 sign) len end ≡ (sign ++ middle) ++ (end ++ drop (len + length end) old)
-assembled old sign middle end len meet fits =
-    let front : List ℕ = sign ++ middle in
-    let long : length front ≡ len = length-append sign middle ∙ sym meet in
-    let signed : sets (take (length sign) old ++ (middle ++ drop len old)) 0 sign ≡ front ++ drop len old =
-    prepend old (middle ++ drop len old) sign 0 (length sign) (zero-add (length sign)) (omega arith)
-    ∙ sym (append-assoc sign middle (drop len old)) in
+-- a sign before a middle: both stand at the start, and the rest as it was
+pub signed : (old sign middle : List ℕ) (end : ℕ) → end ≡ length sign + length middle → end ≤ length old
+    → sets (take (length sign) old ++ (middle ++ drop end old)) 0 sign ≡ (sign ++ middle) ++ drop end old
+signed old sign middle end meet fits =
+    prepend old (middle ++ drop end old) sign 0 (length sign) (zero-add (length sign)) (omega arith)
+    ∙ sym (append-assoc sign middle (drop end old))
+
+-- an end behind what stands at the start
+pub ended : (old front end : List ℕ) (len : ℕ) → length front ≡ len → len + length end ≤ length old
+    → sets (front ++ drop len old) len end ≡ front ++ (end ++ drop (len + length end) old)
+ended old front end len long fits =
     let room : len + length end ≤ length (front ++ drop len old) = simp (length-append, long, length-drop) (omega arith) in
     let first : take len (front ++ drop len old) ≡ front = take-at front (drop len old) len long in
     let last : drop (len + length end) (front ++ drop len old) ≡ drop (len + length end) old =
     sym (drop-drop (length end) len (front ++ drop len old))
     ∙ ap (drop (length end)) (drop-at front (drop len old) len long)
     ∙ drop-drop (length end) len old in
-    ap (λ l. sets l len end) signed ∙ sets-eq end (front ++ drop len old) len room
+    sets-eq end (front ++ drop len old) len room
     ∙ rw (first, last) (append-assoc front end (drop (len + length end) old))

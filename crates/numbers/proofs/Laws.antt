@@ -2,8 +2,8 @@
 use mathlib.Core.Path.{_≡_, refl, ap, sym, subst, _∙_}
 use mathlib.Core.Bool.{Bool, true, false, cond, _&&_}
 use mathlib.Core.List.{[], _∷_}
-use Prim.Native.Nat.{ℕ, zero, suc, _+_, _-_, _/_, _%_, _^_, _≤_, _<_}
-use native.Mathlib.Nat.{add-zero, add-suc, suc-add, pow-zero, pow-suc, mul-le-mul, pow-le-pow-left, pow-le-pow-right}
+use Prim.Native.Nat.{ℕ, zero, suc, _+_, _-_, _*_, _/_, _%_, _^_, _≤_, _<_}
+use native.Mathlib.Nat.{add-zero, add-suc, suc-add, pow-zero, pow-suc, mul-le-mul, pow-le-pow-right}
 use native.Mathlib.Numerals.{add-one}
 use native.Mathlib.Decide.{decLt}
 use native.Mathlib.Omega.{arith}
@@ -11,12 +11,12 @@ use lib.Dec.{ltb, leb, eqb}
 use lib.ListN.{length, length-append}
 use borrow.Author.Tests.{lt-ltb, le-ltb, lt-leb, ltb-true, ltb-false, leb-true, leb-false, eq-eqb, ne-eqb, eqb-true, eqb-false}
 use Rattle.paper.proofs.Choice.{either}
-use Rattle.numbers.specs.Digits.{gap, digits, enough, digitCount}
-use Rattle.numbers.specs.Steps.{spreadOf, groupOf, gapBefore, charactersOf}
-use Rattle.numbers.specs.Strings.{radix, negative, magnitude, count, minus, string}
+use Rattle.numbers.specs.Digits.{gap, digits, enough}
+use Rattle.numbers.specs.inner.Steps.{spreadOf, gapBefore, charactersOf, stringOf}
+use Rattle.numbers.specs.Strings.{radix, minus}
 use Rattle.numbers.specs.declared.forms.Base.{Base}
 use Rattle.numbers.specs.declared.forms.Base.the-variants.{Two, Ten, Sixteen}
-use Rattle.numbers.specs.declared.forms.Form.{Form}
+use Rattle.numbers.specs.declared.size.Number.{Number}
 
 pub radix-range : (b : Base) → (2 ≤ radix b) × (radix b ≤ 16)
 radix-range Two = omega arith
@@ -63,7 +63,7 @@ enough-from b n zero k = omega arith
 enough-from b n (suc more) k = either (λ m. k ≤ m) (ltb n (b ^ k)) (λ _. omega arith) (λ _. omega (arith, enough-from b n more (suc k)))
 
 -- one step of the definition's own walk to the number of digits
-pub enough-next : (b n more k : ℕ) → 2 ≤ b → b ^ k ≤ n → k + more ≡ n + 1
+enough-next : (b n more k : ℕ) → 2 ≤ b → b ^ k ≤ n → k + more ≡ n + 1
     → (m : ℕ) × (k + 1 + m ≡ n + 1) × (enough b n more k ≡ enough b n m (k + 1))
 enough-next b n zero k two low e = absurd (omega (arith, below-power b k two))
 enough-next b n (suc m) k two low e = (m, omega arith, enough-later b n m k low ∙ ap (enough b n m) (sym (add-one k)))
@@ -92,6 +92,10 @@ enough-reached b n (suc j) more k two high e =
     let low : n < b ^ k = leb-false (b ^ k) n t in
     let higher : n < b ^ suc k = omega (arith, pow-le-pow-right {n = b} (omega arith) {i = k} {j = suc k} (omega arith)) in
     enough-here b n more k low ∙ omega (arith, reached-none b n j (suc k) (omega arith) higher))
+
+-- the last k digits stand in groups of three from the right: how many the first group has
+abbrev pub groupOf : ℕ → ℕ
+groupOf k = k - 3 * ((k - 1) / 3)
 
 -- a space stands before whole groups: where the group that was counted along is whole
 pub gap-by-group : (s : Bool) (k : ℕ) → gapBefore s (groupOf k) ≡ gap s k
@@ -132,24 +136,8 @@ digits-length b s (suc k) n =
     ap suc (length-append (gap s k) (digits b s k n) ∙ ap (λ m. length (gap s k) + m) (digits-length b s k n))
     ∙ sym (spread-suc s k)
 
--- a 32-bit number has at most 32 digits in any base
-pub count-small : (form : Form) (n : ℕ) → n < 2 ^ 32 → form .fixed ≤ 255 → count form n ≤ 255
-count-small form n word small = go (eqb (form .fixed) 0)
-  where
-    base : (2 ≤ radix (form .base)) × (radix (form .base) ≤ 16)
-    base = radix-range (form .base)
-
-    high : n < radix (form .base) ^ 32
-    high = omega (arith, pow-le-pow-left (base .0) 32)
-
-    go : (t : Bool) → cond t (digitCount (radix (form .base)) n) (form .fixed) ≤ 255
-    go true = omega (arith, enough-least (radix (form .base)) n n 1 32 (omega (arith, base)) high (omega arith))
-    go false = small
-
-pub string-length : (form : Form) (value : ℕ) → length (string form value) ≡ charactersOf form (negative form value) (magnitude form value)
-unfolding string
-string-length form value =
-    let n = magnitude form value in
-    let b = radix (form .base) in
-    length-append (minus (negative form value)) (digits b (form .spaced) (count form n) n)
-    ∙ ap (λ m. length (minus (negative form value)) + m) (digits-length b (form .spaced) (count form n) n)
+-- the string of a number is as long as its minus and its digits with their spaces
+pub string-length : (number : Number) (base k : ℕ) (spaced : Bool) → length (stringOf number base k spaced) ≡ charactersOf (number .negative) spaced k
+string-length number base k spaced =
+    length-append (minus (number .negative)) (digits base spaced k (number .magnitude))
+    ∙ ap (λ m. length (minus (number .negative)) + m) (digits-length base spaced k (number .magnitude))

@@ -1,7 +1,7 @@
--- Laws of the digits, of a buffer that is written from the right, of the families of the calls, of their answers' size, and of the
--- parts of a form.
+-- Laws of the digits, of a buffer that is written from the right, of how many digits a form has, of the parts of a form, and of an
+-- answer's two shapes.
 pub mod Laws
 pub mod Buffer
-pub mod Families
 pub mod Bounds
 pub mod Parts
+pub mod PaperNumbers

@@ -3,10 +3,11 @@ use mathlib.Core.Path.{_≡_, ap, _∙_}
 use mathlib.Core.List.{List}
 use Prim.Native.Nat.{ℕ}
 use lib.ListN.{length}
-use Rattle.numbers.specs.Strings.{radix, count, string, terminator, conversion, bufferAfter}
-use Rattle.numbers.specs.Steps.{numberIn, stringOf, zeroIf, answered, leaves}
+use Rattle.paper.specs.Layings.{laying, laidIn}
+use Rattle.numbers.specs.Strings.{radix, Form, count, string}
+use Rattle.numbers.specs.Calls.{known, answerIn, bufferIn, convertedBy}
+use Rattle.numbers.specs.inner.Steps.{numberIn, stringOf}
 use Rattle.numbers.specs.declared.Converted.{Converted}
-use Rattle.numbers.specs.declared.forms.Form.{Form}
 use Rattle.numbers.specs.declared.size.Number.{Number}
 
 module _ (form : Form) (value : ℕ) (number : Number) (k : ℕ) where
@@ -14,15 +15,14 @@ module _ (form : Form) (value : ℕ) (number : Number) (k : ℕ) where
   text = stringOf number (radix (form .base)) k (form .spaced)
 
   module _ (n : number ≡ numberIn (form .signed) (form .width) value) (d : k ≡ count form (number .magnitude)) where
-    string-of : text ≡ string form value
+    pub string-of : text ≡ string form value
     unfolding string
     string-of =
         ap (λ k. stringOf number (radix (form .base)) k (form .spaced)) d
         ∙ ap (λ n. stringOf n (radix (form .base)) (count form (n .magnitude)) (form .spaced)) n
 
     pub converted : (buf : List ℕ) {r : Converted} {left : List ℕ}
-        → (r ≡ answered text (zeroIf (form .terminated)) (length buf)) × (left ≡ leaves text (zeroIf (form .terminated)) buf)
-        → (r ≡ conversion form value (length buf)) × (left ≡ bufferAfter form value buf)
-    unfolding conversion bufferAfter answered leaves
+        → (r ≡ convertedBy (laying text (form .terminated) (length buf))) × (left ≡ laidIn text (form .terminated) buf)
+        → (r ≡ convertedBy (answerIn (known form) value (length buf))) × (left ≡ bufferIn (known form) value buf)
     converted buf (a, l) =
-        (a ∙ ap (λ s. answered s (terminator form) (length buf)) string-of, l ∙ ap (λ s. leaves s (terminator form) buf) string-of)
+        (a ∙ ap (λ s. convertedBy (laying s (form .terminated) (length buf))) string-of, l ∙ ap (λ s. laidIn s (form .terminated) buf) string-of)

@@ -2,4 +2,4 @@
 pub mod Digits
 pub mod Strings
 pub mod Calls
-pub mod Steps
+pub mod inner

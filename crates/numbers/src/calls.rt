@@ -1,15 +1,8 @@
-// The calls by their numbers: which form each of them has.
+// The calls by their numbers: which family each of them is of, and its width.
 ghost use mathlib.Core.Path.{_≡_};
-ghost use Rattle.numbers.specs.Calls.{withoutX, widthNumber, hex, binary, decimal, ranged, described};
-ghost use Rattle.numbers.specs.Steps.{formOf};
-use crate::forms::Base;
-use crate::forms::Form;
+ghost use Rattle.numbers.specs.Calls.{withoutX, widthNumber, ranged, described};
+ghost use Rattle.numbers.specs.inner.Steps.{formOf};
 use crate::forms::Width;
-
-pub enum Described {
-    Unknown,
-    Known(Form),
-}
 
 // The family of a call with its width, or that a number is no call's.
 pub(crate) enum Family {
@@ -50,48 +43,6 @@ fn width_number(n: u32) -> Width
     Width::Word
 }
 
-fn hex_form(width: Width) -> Form
-    ensures { λ r. ⌜ r ≡ hex width ⌝ }
-{
-    let digits = width.bits() / 4;
-    Form {
-        base: Base::Sixteen,
-        fixed: digits,
-        width,
-        signed: false,
-        spaced: false,
-        terminated: true,
-    }
-}
-
-fn binary_form(width: Width) -> Form
-    ensures { λ r. ⌜ r ≡ binary width ⌝ }
-{
-    let digits = width.bits();
-    Form {
-        base: Base::Two,
-        fixed: digits,
-        width,
-        signed: false,
-        spaced: false,
-        terminated: true,
-    }
-}
-
-// A decimal string with its zero byte.
-pub fn decimal_form(signed: bool, spaced: bool, width: Width) -> Form
-    ensures { λ r. ⌜ r ≡ decimal signed spaced width ⌝ }
-{
-    Form {
-        base: Base::Ten,
-        fixed: 0,
-        width,
-        signed,
-        spaced,
-        terminated: true,
-    }
-}
-
 // &D0 to &E8, each family from its narrowest width to its widest.
 fn in_range(c: u32) -> Family
     ensures { λ r. ⌜ formOf r ≡ ranged c ⌝ }
@@ -129,20 +80,4 @@ pub(crate) fn family_of(call: u32) -> Family
         return Family::Signed(Width::Word);
     }
     in_range(c)
-}
-
-// The form of a call.
-pub fn describe(call: u32) -> Described
-    ensures { λ r. ⌜ r ≡ described call ⌝ }
-{
-    let family = family_of(call);
-    match family {
-        Family::NoCall => Described::Unknown,
-        Family::Hex(width) => Described::Known(hex_form(width)),
-        Family::Binary(width) => Described::Known(binary_form(width)),
-        Family::Unsigned(width) => Described::Known(decimal_form(false, false, width)),
-        Family::Signed(width) => Described::Known(decimal_form(true, false, width)),
-        Family::SpacedUnsigned(width) => Described::Known(decimal_form(false, true, width)),
-        Family::SpacedSigned(width) => Described::Known(decimal_form(true, true, width)),
-    }
 }

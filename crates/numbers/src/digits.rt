@@ -8,34 +8,8 @@ ghost use lib.ListN.{length, take, drop};
 ghost use lib.Seq.{sets};
 ghost use Rattle.numbers.specs.Digits.{digits, digitCount};
 ghost use Rattle.numbers.specs.Strings.{radix};
-ghost use Rattle.numbers.specs.Steps.{spreadOf, gapBefore};
+ghost use Rattle.numbers.specs.inner.Steps.{spreadOf, gapBefore};
 use crate::forms::Base;
-
-// How many digits n has, zero having one.
-pub(crate) fn count_digits(base: Base, n: u32) -> usize
-    ensures { λ r. ⌜ r ≡ digitCount (radix base) n ⌝ }
-{
-    match base {
-        Base::Two => count_by_powers(2, n),
-        Base::Ten => count_decimal(n),
-        Base::Sixteen => count_by_powers(16, n),
-    }
-}
-
-// The digits of n, power by power. A form may count in any base; the calls count in base ten only.
-fn count_by_powers(radix: u64, n: u32) -> usize
-    requires { ⌜ (2 ≤ radix) × (radix ≤ 16) ⌝ }
-    ensures { λ r. ⌜ r ≡ digitCount radix n ⌝ }
-{
-    let wide = n as u64;
-    let mut limit = radix;
-    let mut count = 1;
-    while limit <= wide {
-        limit = limit * radix;
-        count += 1;
-    }
-    count
-}
 
 // The decimal digits of n: one, and one more for each power of ten that n reaches. There is no jump here that the processor could
 // guess wrong.

@@ -1,4 +1,4 @@
-// What a call writes: a form, and the size and sign of its string for a value.
+// What a call counts in, and how much of the value it uses.
 ghost use mathlib.Core.Path.{_≡_};
 ghost use Prim.Native.Nat.{ℕ, _/_, _%_, _^_, _≤_};
 ghost use Rattle.numbers.specs.Digits.{glyph};
@@ -19,33 +19,9 @@ pub enum Width {
     Word,
 }
 
-// What a call writes. Every form is a sound one, so nothing that takes one asks anything of it.
-pub struct Form {
-    pub base: Base,
-    // How many digits, leading zeros kept; 0: as many as the number has.
-    pub fixed: u8,
-    pub width: Width,
-    // Two's complement of the width, with a minus where it is negative.
-    pub signed: bool,
-    // A space between groups of three digits, counted from the right.
-    pub spaced: bool,
-    // A zero byte behind the string.
-    pub terminated: bool,
-}
-
 impl Base {
-    pub fn radix(self) -> u32
-        ensures { λ r. ⌜ r ≡ radix self ⌝ }
-    {
-        match self {
-            Base::Two => 2,
-            Base::Ten => 10,
-            Base::Sixteen => 16,
-        }
-    }
-
     // Division by a number that is known in each arm, which is the fast one.
-    pub fn shrink(self, n: u32) -> u32
+    pub(crate) fn shrink(self, n: u32) -> u32
         ensures { λ r. ⌜ r ≡ n / radix self ⌝ }
     {
         match self {
@@ -67,7 +43,7 @@ impl Base {
     }
 
     // The last digit of n, as a byte.
-    pub fn last_glyph(self, n: u32) -> u8
+    pub(crate) fn last_glyph(self, n: u32) -> u8
         ensures { λ r. ⌜ r ≡ glyph (n % radix self) ⌝ }
     {
         let digit = self.last_digit(n);
@@ -79,7 +55,7 @@ impl Base {
 }
 
 impl Width {
-    pub fn bits(self) -> u8
+    pub(crate) fn bits(self) -> u8
         ensures { λ r. ⌜ r ≡ bits self ⌝ }
     {
         match self {
@@ -92,7 +68,7 @@ impl Width {
     }
 
     // One more than the largest number of the width.
-    pub fn span(self) -> u64
+    pub(crate) fn span(self) -> u64
         ensures { λ r. ⌜ r ≡ 2 ^ bits self ⌝ }
     {
         match self {
@@ -105,7 +81,7 @@ impl Width {
     }
 
     // The low bits of a value that the width keeps.
-    pub fn low_bits(self, value: u32) -> u32
+    pub(crate) fn low_bits(self, value: u32) -> u32
         ensures { λ r. ⌜ r ≡ value % 2 ^ bits self ⌝ }
     {
         low_part(value, self.span())

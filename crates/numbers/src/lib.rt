@@ -1,13 +1,16 @@
-// Numbers to strings: the 26 calls of the chapter, and the strings that other chapters write with them.
+// Numbers to strings: the 26 calls of the chapter, and the signed decimal that other chapters write.
 ghost use mathlib.Core.Path.{_≡_};
-ghost use mathlib.Core.Bool.{cond};
-ghost use Prim.Native.Nat.{_≤_};
-ghost use lib.ListN.{length, set};
-ghost use Rattle.numbers.specs.Strings.{radix, conversion, bufferAfter};
-ghost use Rattle.numbers.specs.Calls.{decimal, answerOf, bufferOf};
-ghost use Rattle.numbers.specs.Steps.{fixedForm, stringOf, zeroIf, answered, leaves};
+ghost use mathlib.Core.Bool.{true, cond};
+ghost use mathlib.Core.List.{_++_};
+ghost use Prim.Native.Nat.{_-_, _^_, _≤_};
+ghost use lib.ListN.{length, drop, set};
+ghost use Rattle.paper.specs.Layings.{laying, laidIn};
+ghost use Rattle.numbers.specs.Digits.{digitCount};
+ghost use Rattle.numbers.specs.Strings.{radix, largest};
+ghost use Rattle.numbers.specs.Calls.{fixed, decimal, decimalOf, known, answerIn, bufferIn, answerOf, bufferOf, convertedBy};
+ghost use Rattle.numbers.specs.inner.Steps.{charactersOf, stringOf};
 
-pub mod calls;
+mod calls;
 mod digits;
 pub mod forms;
 mod size;
@@ -15,7 +18,6 @@ mod size;
 use calls::Family;
 use digits::one_if;
 use forms::Base;
-use forms::Form;
 use forms::Width;
 use paper::NO_ROOM;
 use paper::UNKNOWN_CALL;
@@ -39,7 +41,7 @@ pub enum Converted {
 // One of the calls by its number: the string of `value` at the start of `buf`, or a refusal that changes nothing. Each family has
 // a call of its own, so that the compiler makes code for each, with no test of what its form is.
 pub fn convert(call: u32, value: u32, buf: &mut [u8]) -> Converted
-    ensures answer { λ r. ⌜ r ≡ answerOf call value (length (now (buf .entry))) ⌝ }
+    ensures answer { λ r. ⌜ r ≡ convertedBy (answerOf call value (length (now (buf .entry)))) ⌝ }
     ensures buffer { λ r. ⌜ now (buf .exit) ≡ bufferOf call value (now (buf .entry)) ⌝ }
 {
     let family = calls::family_of(call);
@@ -58,23 +60,24 @@ pub fn convert(call: u32, value: u32, buf: &mut [u8]) -> Converted
     }
 }
 
-// The string of any form at the start of `buf`, whole or not at all.
-pub fn write(form: Form, value: u32, buf: &mut [u8]) -> Converted
-    ensures answer { λ r. ⌜ r ≡ conversion form value (length (now (buf .entry))) ⌝ }
-    ensures buffer { λ r. ⌜ now (buf .exit) ≡ bufferAfter form value (now (buf .entry)) ⌝ }
+// The signed decimal of a 32-bit pattern at the start of `out`, which has room for the longest: a minus and ten digits. The answer
+// is how many characters it has.
+pub fn signed_decimal(value: u32, out: &mut [u8; 11]) -> usize
+    ensures length { λ r. ⌜ (r ≡ length (decimalOf value)) × (r ≤ 11) ⌝ }
+    ensures buffer { λ r. ⌜ now (out .exit) ≡ decimalOf value ++ drop (length (decimalOf value)) (now (out .entry)) ⌝ }
 {
-    let base = form.base;
-    let width = form.width;
-    let number = size::number_in(form.signed, width, value);
-    let count = size::digits_in(form, number.magnitude);
-    write_number(number, base, count, form.spaced, form.terminated, buf)
+    let number = size::number_in(true, Width::Word, value);
+    let count = digits::count_decimal(number.magnitude);
+    let end = characters(number.negative, false, count);
+    lay_number(number, Base::Ten, count, false, end, out);
+    end
 }
 
-// A string of a fixed number of digits, with its zero byte.
+// A string of every digit of a width, with its zero byte.
 fn write_fixed(base: Base, digits: u8, width: Width, value: u32, buf: &mut [u8]) -> Converted
-    requires { ⌜ 1 ≤ digits ⌝ }
-    ensures answer { λ r. ⌜ r ≡ conversion (fixedForm base digits width) value (length (now (buf .entry))) ⌝ }
-    ensures buffer { λ r. ⌜ now (buf .exit) ≡ bufferAfter (fixedForm base digits width) value (now (buf .entry)) ⌝ }
+    requires { ⌜ digits ≡ digitCount (radix base) (largest width) ⌝ }
+    ensures answer { λ r. ⌜ r ≡ convertedBy (answerIn (known (fixed base width)) value (length (now (buf .entry)))) ⌝ }
+    ensures buffer { λ r. ⌜ now (buf .exit) ≡ bufferIn (known (fixed base width)) value (now (buf .entry)) ⌝ }
 {
     let number = Number {
         negative: false,
@@ -85,8 +88,8 @@ fn write_fixed(base: Base, digits: u8, width: Width, value: u32, buf: &mut [u8])
 
 // A decimal string with its zero byte.
 fn write_decimal(signed: bool, spaced: bool, width: Width, value: u32, buf: &mut [u8]) -> Converted
-    ensures answer { λ r. ⌜ r ≡ conversion (decimal signed spaced width) value (length (now (buf .entry))) ⌝ }
-    ensures buffer { λ r. ⌜ now (buf .exit) ≡ bufferAfter (decimal signed spaced width) value (now (buf .entry)) ⌝ }
+    ensures answer { λ r. ⌜ r ≡ convertedBy (answerIn (known (decimal signed spaced true width)) value (length (now (buf .entry)))) ⌝ }
+    ensures buffer { λ r. ⌜ now (buf .exit) ≡ bufferIn (known (decimal signed spaced true width)) value (now (buf .entry)) ⌝ }
 {
     let number = size::number_in(signed, width, value);
     let count = digits::count_decimal(number.magnitude);
@@ -104,12 +107,11 @@ fn write_number(
     buf: &mut [u8],
 ) -> Converted
     requires { ⌜ count ≤ 255 ⌝ }
-    ensures answer { λ r. ⌜ r ≡ answered (stringOf number (radix base) count spaced) (zeroIf terminated) (length (now (buf .entry))) ⌝ }
-    ensures buffer { λ r. ⌜ now (buf .exit) ≡ leaves (stringOf number (radix base) count spaced) (zeroIf terminated) (now (buf .entry)) ⌝ }
+    ensures answer { λ r. ⌜ r ≡ convertedBy (laying (stringOf number (radix base) count spaced) terminated (length (now (buf .entry)))) ⌝ }
+    ensures buffer { λ r. ⌜ now (buf .exit) ≡ laidIn (stringOf number (radix base) count spaced) terminated (now (buf .entry)) ⌝ }
 {
-    let negative = number.negative;
-    let length = one_if(negative) + digits::spread(spaced, count);
-    let need = length + one_if(terminated);
+    let end = characters(number.negative, spaced, count);
+    let need = end + one_if(terminated);
     let room = buf.len();
     if room < need {
         Converted::Refused {
@@ -118,16 +120,32 @@ fn write_number(
             free: room,
         }
     } else {
-        digits::put_digits(base, spaced, count, number.magnitude, length, buf);
-        put_if(negative, b'-', 0, buf);
-        put_if(terminated, 0, length, buf);
-        let free = room - length;
+        lay_number(number, base, count, spaced, end, buf);
+        put_if(terminated, 0, end, buf);
+        let free = room - end;
         Converted::Written {
-            offset: length,
+            offset: end,
             need,
             free,
         }
     }
+}
+
+// How many characters `count` digits take with their minus and their spaces.
+fn characters(negative: bool, spaced: bool, count: usize) -> usize
+    requires { ⌜ count ≤ 255 ⌝ }
+    ensures { λ r. ⌜ (r ≡ charactersOf negative spaced count) × (r ≤ 341) ⌝ }
+{
+    one_if(negative) + digits::spread(spaced, count)
+}
+
+// The last `count` digits of a number and its minus, from the start of `buf` up to `end`.
+fn lay_number(number: Number, base: Base, count: usize, spaced: bool, end: usize, buf: &mut [u8])
+    requires { ⌜ (end ≡ charactersOf (number .negative) spaced count) × (end ≤ length (now buf)) ⌝ }
+    ensures { λ r. ⌜ now (buf .exit) ≡ stringOf number (radix base) count spaced ++ drop end (now (buf .entry)) ⌝ }
+{
+    digits::put_digits(base, spaced, count, number.magnitude, end, buf);
+    put_if(number.negative, b'-', 0, buf);
 }
 
 // Writes one byte, if it is wanted and lies inside the buffer.

@@ -1,12 +1,9 @@
-// What is written of a value: the number that its low bits stand for, and how many digits of it.
+// What is written of a value: the number that its low bits stand for.
 ghost use mathlib.Core.Path.{_≡_};
 ghost use mathlib.Core.Bool.{true, _&&_, cond};
 ghost use Prim.Native.Nat.{_*_, _-_, _<_, _≤_};
 ghost use lib.Dec.{leb};
-ghost use Rattle.numbers.specs.Strings.{count};
-ghost use Rattle.numbers.specs.Steps.{numberIn};
-use crate::digits::count_digits;
-use crate::forms::Form;
+ghost use Rattle.numbers.specs.inner.Steps.{numberIn};
 use crate::forms::Width;
 use crate::forms::low_part;
 
@@ -56,16 +53,4 @@ pub(crate) fn number_in(signed: bool, width: Width, value: u32) -> Number
         negative,
         magnitude,
     }
-}
-
-// How many digits of n are written.
-pub(crate) fn digits_in(form: Form, n: u32) -> usize
-    ensures { λ r. ⌜ (r ≡ count form n) × (r ≤ 255) ⌝ }
-{
-    let fixed = form.fixed;
-    if fixed == 0 {
-        let base = form.base;
-        return count_digits(base, n);
-    }
-    fixed as usize
 }

@@ -55,7 +55,7 @@ module _ (string : List ℕ) (terminated : Bool) (rest : List ℕ) where
 
 -- an answer other than No room stays the same in a larger room, with the same bytes
 module _ (string : List ℕ) (terminated : Bool) (more : ℕ) (buf buf′ : List ℕ) (longer : length buf′ ≡ length buf + more) where
-  grows-by : (a a′ : Answer) (after after′ : List ℕ) → Outcome string terminated buf a after → Outcome string terminated buf′ a′ after′
+  pub grows-by : (a a′ : Answer) (after after′ : List ℕ) → Outcome string terminated buf a after → Outcome string terminated buf′ a′ after′
       → (a .number ≡ no-room → ⊥) → GrownWhole after buf′ after′ more a a′
   grows-by a a′ after after′ (no-room-for less) o n = absurd (n refl)
   grows-by a a′ after after′ (laid room) (no-room-for less) n = absurd (omega arith)

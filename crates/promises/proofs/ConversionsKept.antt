@@ -1,69 +1,110 @@
 -- What `convert` promises is kept.
 use mathlib.Core.Path.{_≡_, refl, ap, ap₂, sym, subst, _∙_}
-use mathlib.Core.List.{List, [], _++_, append-assoc, append-nil}
-use Prim.Native.Nat.{ℕ, _+_, _≤_}
+use mathlib.Core.List.{List, [], _++_, append-nil}
+use Prim.Native.Nat.{ℕ, _+_, _-_, _≤_, _<_}
 use native.Mathlib.Omega.{arith}
 use lib.ListN.{length, take, drop, length-append}
-use lib.Seq.{take-at, drop-at, take-append-seam}
-use Rattle.paper.specs.Refusals.{no-room, longest}
-use Rattle.numbers.specs.Strings.{used, string, terminator, needed, inPaper}
-use Rattle.numbers.specs.Calls.{described}
+use lib.Seq.{take-append-seam}
+use Rattle.paper.specs.Answers.{in-text, Answer, refusal, GrownWhole}
+use Rattle.paper.specs.Layings.{terminator, roomFor}
+use Rattle.paper.specs.Refusals.{no-room, unknown-call, longest}
+use Rattle.paper.proofs.Laid as Laid
+use Rattle.paper.proofs.Laid.{no-room-for, laid, grows-by}
+use Rattle.numbers.specs.Strings.{Form, used, string}
+use Rattle.numbers.specs.Calls.{unknown, known, described, convertedAnswer}
 use Rattle.numbers.specs.declared.Converted.{Converted}
-use Rattle.numbers.specs.declared.calls.Described.the-variants.{Known}
 use Rattle.numbers.specs.declared.forms.Base.{Base}
 use Rattle.numbers.specs.declared.forms.Base.the-variants.{Two, Ten, Sixteen}
-use Rattle.numbers.specs.declared.forms.Form.{Form}
-use Rattle.numbers.proofs.Families.{Family, family}
-use Rattle.numbers.proofs.Bounds.{fixed-small, string-short}
-use Rattle.reader.specs.Reading.{reading, valued, lead}
+use Rattle.numbers.proofs.Bounds.{string-short}
+use Rattle.reader.specs.Reading.{no-limit, reading, valued, lead, readNumber, readPlace, readValue}
 use Rattle.reader.proofs.ReadBack.{read-back}
-use Rattle.promises.specs.Conversions.{OneAnswer, Refuses, Refusals, Bytes, ReadsBack, Grows, LargerRoom, SecondAsk}
-use Rattle.promises.proofs.Outcomes.{Outcome, unknown, short, whole, one-form, not-both, outcome}
+use Rattle.promises.specs.Conversions.{OneAnswer, needed, Refuses, Refusals, Tells, Exact, OffsetAndFree, Bytes, ReadAs, ReadsBack, LargerRoom, SecondAsk}
+use Rattle.promises.proofs.Outcomes.{Outcome, refuses, lays, one-form, not-both, outcome}
 
 pub one-answer : OneAnswer
 one-answer call value buf after after′ r r′ c c′ = (c .answer ∙ sym (c′ .answer), c .buffer ∙ sym (c′ .buffer))
 
 -- two forms of one call need the same room
-same-need : (call value : ℕ) (f g : Form) → described call ≡ Known f → described call ≡ Known g → needed f value ≡ needed g value
+same-need : (call value : ℕ) (f g : Form) → described call ≡ known f → described call ≡ known g → needed f value ≡ needed g value
 same-need call value f g p q = ap (λ h. needed h value) (one-form call f g p q)
 
-refuses : (call value : ℕ) (buf after : List ℕ) (r : Converted) → Outcome call value buf r after → Refuses call value buf after (inPaper r)
-refuses call value buf after r (unknown k) =
-    record {
-      unknown = (λ _. k, λ _. refl);
-      room = (λ e. absurd (omega arith), λ f. absurd (not-both call (f .0) k (f .1)));
-      accepted = (λ e. absurd (omega arith), λ f. absurd (not-both call (f .0) k (f .1)));
-      kept = λ _. refl;
-    }
-refuses call value buf after r (short form k less) =
-    record {
-      unknown = (λ e. absurd (omega arith), λ e. absurd (not-both call form e k));
-      room = (λ _. (form, k, less), λ _. refl);
-      accepted = (λ e. absurd (omega arith), λ f. absurd (omega (arith, f .2, same-need call value form (f .0) k (f .1))));
-      kept = λ _. refl;
-    }
-refuses call value buf after r (whole form k room) =
-    record {
-      unknown = (λ e. absurd (omega arith), λ e. absurd (not-both call form e k));
-      room = (λ e. absurd (omega arith), λ f. absurd (omega (arith, f .2, same-need call value form (f .0) k (f .1))));
-      accepted = (λ _. (form, k, room), λ _. refl);
-      kept = λ n. absurd (n refl);
-    }
+module _ (call value : ℕ) (buf : List ℕ) where
+  refused-as : (a : Answer) (after : List ℕ) → Outcome call value buf a after → Refuses call value buf after a
+  refused-as a after (refuses k) =
+      record {
+        unknown = (λ _. k, λ _. refl);
+        room = (λ e. absurd (omega arith), λ f. absurd (not-both call (f .0) k (f .1)));
+        accepted = (λ e. absurd (omega arith), λ f. absurd (not-both call (f .0) k (f .1)));
+        kept = λ _. refl;
+      }
+  refused-as a after (lays form k (no-room-for less)) =
+      record {
+        unknown = (λ e. absurd (omega arith), λ e. absurd (not-both call form e k));
+        room = (λ _. (form, k, less), λ _. refl);
+        accepted = (λ e. absurd (omega arith), λ f. absurd (omega (arith, f .2, same-need call value form (f .0) k (f .1))));
+        kept = λ _. refl;
+      }
+  refused-as a after (lays form k (laid room)) =
+      record {
+        unknown = (λ e. absurd (omega arith), λ e. absurd (not-both call form e k));
+        room = (λ e. absurd (omega arith), λ f. absurd (omega (arith, f .2, same-need call value form (f .0) k (f .1))));
+        accepted = (λ _. (form, k, room), λ _. refl);
+        kept = λ n. absurd (n refl);
+      }
+
+  -- what an answer says, over the one form that its call has
+  abbrev accepted-of : Form → Answer
+  accepted-of form =
+      record { number = 0; counted = in-text; place = length (string form value); need = needed form value; free = length buf - length (string form value) }
+
+  abbrev no-room-of : Form → Answer
+  no-room-of form = record { number = no-room; counted = in-text; place = 0; need = needed form value; free = length buf }
+
+  told : (a : Answer) (after : List ℕ) → Outcome call value buf a after → Tells call value (length buf) a
+  told a after (refuses k) =
+      record {
+        accepted = λ form e room. absurd (not-both call form k e);
+        no-room = λ form e less. absurd (not-both call form k e);
+        unknown = λ _. refl;
+      }
+  told a after (lays form k (no-room-for less)) =
+      record {
+        accepted = λ f e room. absurd (omega (arith, same-need call value form f k e));
+        no-room = λ f e h. ap no-room-of (one-form call form f k e);
+        unknown = λ e. absurd (not-both call form e k);
+      }
+  told a after (lays form k (laid room)) =
+      record {
+        accepted = λ f e h. ap accepted-of (one-form call form f k e);
+        no-room = λ f e less. absurd (omega (arith, same-need call value form f k e));
+        unknown = λ e. absurd (not-both call form e k);
+      }
+
+  -- an accepted answer's offset, and what it leaves
+  written : (form : Form) (a : Answer) (after : List ℕ) → described call ≡ known form → a .number ≡ 0 → Outcome call value buf a after
+      → (a .place ≡ length (string form value)) × (after ≡ string form value ++ (terminator (form .terminated) ++ drop (needed form value) buf))
+  written form a after e accepted (refuses k) = absurd (omega arith)
+  written form a after e accepted (lays g k (no-room-for less)) = absurd (omega arith)
+  written form a after e accepted (lays g k (laid room)) =
+      let same = one-form call g form k e in
+      (ap (λ f. length (string f value)) same, ap (λ f. string f value ++ (terminator (f .terminated) ++ drop (needed f value) buf)) same)
+
+  summed : (a : Answer) (after : List ℕ) → Outcome call value buf a after → a .number ≡ 0 → a .place + a .free ≡ length buf
+  summed a after (refuses k) e = absurd (omega arith)
+  summed a after (lays form k (no-room-for less)) e = absurd (omega arith)
+  summed a after (lays form k (laid room)) e = omega arith
 
 pub refusals : Refusals
-refusals call value buf after r c = refuses call value buf after r (outcome call value buf after r c)
+refusals call value buf after r c = refused-as call value buf (convertedAnswer r) after (outcome call value buf r after c)
 
-written : (call value : ℕ) (form : Form) (buf after : List ℕ) (r : Converted) → described call ≡ Known form → inPaper r .number ≡ 0
-    → Outcome call value buf r after
-    → (inPaper r .place ≡ length (string form value)) × (after ≡ string form value ++ (terminator form ++ drop (needed form value) buf))
-written call value form buf after r known accepted (unknown k) = absurd (omega arith)
-written call value form buf after r known accepted (short g k less) = absurd (omega arith)
-written call value form buf after r known accepted (whole g k room) =
-    let same = one-form call g form k known in
-    (ap (λ f. length (string f value)) same, ap (λ f. string f value ++ (terminator f ++ drop (needed f value) buf)) same)
+pub exact : Exact
+exact call value buf after r c = told call value buf (convertedAnswer r) after (outcome call value buf r after c)
+
+pub offset-and-free : OffsetAndFree
+offset-and-free call value buf after r c = summed call value buf (convertedAnswer r) after (outcome call value buf r after c)
 
 pub bytes : Bytes
-bytes call value form buf after r known c accepted = written call value form buf after r known accepted (outcome call value buf after r c) .1
+bytes call value form buf after r e c accepted = written call value buf form (convertedAnswer r) after e accepted (outcome call value buf r after c) .1
 
 lead-short : (base : Base) → length (lead base) ≤ 2
 lead-short Two = omega arith
@@ -71,68 +112,44 @@ lead-short Ten = omega arith
 lead-short Sixteen = omega arith
 
 pub reads-back : ReadsBack
-reads-back call value form buf after r known unsigned unspaced c accepted option answer told =
-    let w = written call value form buf after r known accepted (outcome call value buf after r c) in
-    let fam : Family (Known form) = subst Family known (family call) in
-    let text : take (inPaper r .place) after ≡ string form value =
-    ap₂ take (w .0) (w .1) ∙ take-append-seam (string form value) (terminator form ++ drop (needed form value) buf) in
+reads-back call value form buf after r e unsigned unspaced c accepted option answer read =
+    let w = written call value buf form (convertedAnswer r) after e accepted (outcome call value buf r after c) in
+    let text : take (convertedAnswer r .place) after ≡ string form value =
+    ap₂ take (w .0) (w .1) ∙ take-append-seam (string form value) (terminator (form .terminated) ++ drop (needed form value) buf) in
     let brief : length (lead (form .base) ++ (string form value ++ [])) ≤ longest =
-    simp (append-nil, length-append) (omega (arith, lead-short (form .base), string-short form value (fixed-small form fam))) in
-    told .answer
-    ∙ ap (λ t. reading (lead (form .base) ++ t) option 4294967295) (text ∙ sym (append-nil (string form value)))
-    ∙ read-back form fam unsigned unspaced value [] option (omega arith) brief
-    ∙ ap (λ n. valued (used form value) (length (lead (form .base)) + n)) (sym (w .0))
-
--- a front of a known length, and what is behind it
-front-length : (form : Form) (value : ℕ) → length (string form value ++ terminator form) ≡ needed form value
-front-length form value = length-append (string form value) (terminator form)
-
-take-front : (form : Form) (value : ℕ) (rest : List ℕ) → take (needed form value) (string form value ++ (terminator form ++ rest)) ≡ string form value ++ terminator form
-take-front form value rest =
-    ap (take (needed form value)) (sym (append-assoc (string form value) (terminator form) rest))
-    ∙ take-at (string form value ++ terminator form) rest (needed form value) (front-length form value)
-
-drop-front : (form : Form) (value : ℕ) (rest : List ℕ) → drop (needed form value) (string form value ++ (terminator form ++ rest)) ≡ rest
-drop-front form value rest =
-    ap (drop (needed form value)) (sym (append-assoc (string form value) (terminator form) rest))
-    ∙ drop-at (string form value ++ terminator form) rest (needed form value) (front-length form value)
-
-module _ (call value more : ℕ) (buf buf′ : List ℕ) (longer : length buf′ ≡ length buf + more) where
-  grows : (after after′ : List ℕ) (r r′ : Converted) → Outcome call value buf r after → Outcome call value buf′ r′ after′
-      → (inPaper r .number ≡ no-room → ⊥) → Grows buf after buf′ after′ more (inPaper r) (inPaper r′)
-  grows after after′ r r′ (unknown k) (unknown k′) n =
-      record { same = record { number = refl; place = refl; need = refl; free = longer }; written = refl; behind = refl }
-  grows after after′ r r′ (unknown k) (short g k′ less) n = absurd (not-both call g k k′)
-  grows after after′ r r′ (unknown k) (whole g k′ room) n = absurd (not-both call g k k′)
-  grows after after′ r r′ (short f k less) o n = absurd (n refl)
-  grows after after′ r r′ (whole f k room) (unknown k′) n = absurd (not-both call f k′ k)
-  grows after after′ r r′ (whole f k room) (short g k′ less) n = absurd (omega (arith, same-need call value f g k k′))
-  grows after after′ r r′ (whole f k room) (whole g k′ room′) n =
-      let same = one-form call g f k′ k in
-      let long : length (string g value) ≡ length (string f value) = ap (λ h. length (string h value)) same in
-      let need : needed g value ≡ needed f value = ap (λ h. needed h value) same in
-      record {
-        same = record { number = refl; place = long; need = need; free = omega arith };
-        written =
-            ap (λ h. take (needed f value) (string h value ++ (terminator h ++ drop (needed h value) buf′))) same
-            ∙ take-front f value (drop (needed f value) buf′) ∙ sym (take-front f value (drop (needed f value) buf));
-        behind =
-            ap (λ h. drop (needed f value) (string h value ++ (terminator h ++ drop (needed h value) buf′))) same
-            ∙ drop-front f value (drop (needed f value) buf′);
-      }
+    simp (append-nil, length-append) (omega (arith, lead-short (form .base), string-short form value)) in
+    let is : answer ≡ valued (used form value) (length (lead (form .base)) + convertedAnswer r .place) =
+    read .answer
+    ∙ ap (λ t. reading (lead (form .base) ++ t) option no-limit) (text ∙ sym (append-nil (string form value)))
+    ∙ read-back form unsigned unspaced value [] option (omega arith) brief
+    ∙ ap (λ n. valued (used form value) (length (lead (form .base)) + n)) (sym (w .0)) in
+    record { number = ap readNumber is; value = ap readValue is; place = ap readPlace is }
 
 pub larger-room : LargerRoom
 larger-room call value more buf after buf′ after′ r r′ longer c c′ n =
-    grows call value more buf buf′ longer after after′ r r′ (outcome call value buf after r c) (outcome call value buf′ after′ r′ c′) n
+    go (convertedAnswer r) (convertedAnswer r′) (outcome call value buf r after c) (outcome call value buf′ r′ after′ c′) n
+  where
+    go : (a a′ : Answer) → Outcome call value buf a after → Outcome call value buf′ a′ after′ → (a .number ≡ no-room → ⊥) → GrownWhole after buf′ after′ more a a′
+    go a a′ (refuses k) (refuses k′) m =
+        record {
+          answer = record { number = refl; counted = refl; place = refl; need = refl; free = longer };
+          written = refl;
+          behind = refl;
+        }
+    go a a′ (refuses k) (lays g k′ o) m = absurd (not-both call g k k′)
+    go a a′ (lays f k o) (refuses k′) m = absurd (not-both call f k′ k)
+    go a a′ (lays f k o) (lays g k′ o′) m =
+        grows-by (string f value) (f .terminated) more buf buf′ longer a a′ after after′ o
+        (subst (λ h. Laid.Outcome (string h value) (h .terminated) buf′ a′ after′) (one-form call g f k′ k) o′) m
 
-again : (call value : ℕ) (buf after buf′ after′ : List ℕ) (r r′ : Converted) → Outcome call value buf r after
-    → Outcome call value buf′ r′ after′ → inPaper r .number ≡ no-room → inPaper r .need ≤ length buf′ → inPaper r′ .number ≡ 0
-again call value buf after buf′ after′ r r′ (unknown k) o e enough = absurd (omega arith)
-again call value buf after buf′ after′ r r′ (short f k less) (unknown k′) e enough = absurd (not-both call f k′ k)
-again call value buf after buf′ after′ r r′ (short f k less) (short g k′ less′) e enough = absurd (omega (arith, same-need call value f g k k′))
-again call value buf after buf′ after′ r r′ (short f k less) (whole g k′ room) e enough = refl
-again call value buf after buf′ after′ r r′ (whole f k room) o e enough = absurd (omega arith)
+again : (call value : ℕ) (buf after buf′ after′ : List ℕ) (a a′ : Answer) → Outcome call value buf a after
+    → Outcome call value buf′ a′ after′ → a .number ≡ no-room → a .need ≤ length buf′ → a′ .number ≡ 0
+again call value buf after buf′ after′ a a′ (refuses k) o e enough = absurd (omega arith)
+again call value buf after buf′ after′ a a′ (lays f k (no-room-for less)) (refuses k′) e enough = absurd (not-both call f k′ k)
+again call value buf after buf′ after′ a a′ (lays f k (no-room-for less)) (lays g k′ (no-room-for less′)) e enough = absurd (omega (arith, same-need call value f g k k′))
+again call value buf after buf′ after′ a a′ (lays f k (no-room-for less)) (lays g k′ (laid room)) e enough = refl
+again call value buf after buf′ after′ a a′ (lays f k (laid room)) o e enough = absurd (omega arith)
 
 pub second-ask : SecondAsk
 second-ask call value buf after buf′ after′ r r′ c e enough c′ =
-    again call value buf after buf′ after′ r r′ (outcome call value buf after r c) (outcome call value buf′ after′ r′ c′) e enough
+    again call value buf after buf′ after′ (convertedAnswer r) (convertedAnswer r′) (outcome call value buf r after c) (outcome call value buf′ r′ after′ c′) e enough

@@ -1,57 +1,40 @@
--- The three ways that a conversion can come out, of every answer and buffer that its contract allows.
-use mathlib.Core.Path.{_≡_, refl, sym, subst₂, _∙_}
-use mathlib.Core.List.{List, _++_}
-use Prim.Native.Nat.{ℕ, _-_, _≤_, _<_}
-use native.Mathlib.Decide.{decLt}
+-- How a conversion can come out, of every answer and buffer that its contract allows.
+use mathlib.Core.Path.{_≡_, refl, ap, sym, subst₂, _∙_}
+use mathlib.Core.List.{List}
+use Prim.Native.Nat.{ℕ}
 use native.Mathlib.Omega.{arith}
-use lib.ListN.{length, drop}
-use Rattle.paper.specs.Refusals.{no-room, unknown-call}
-use Rattle.paper.proofs.Choice.{below, not-below}
-use Rattle.numbers.specs.Strings.{string, terminator, needed, conversion, bufferAfter}
-use Rattle.numbers.specs.Calls.{described, answerIn, bufferIn, answerOf, bufferOf}
+use lib.ListN.{length}
+use Rattle.paper.specs.Answers.{in-text, Answer, refusal}
+use Rattle.paper.specs.Refusals.{unknown-call}
+use Rattle.paper.proofs.Laid as Laid
+use Rattle.numbers.specs.Strings.{Form, string}
+use Rattle.numbers.specs.Calls.{Described, unknown, known, described, answerIn, bufferIn, answerOf, bufferOf, convertedAnswer}
 use Rattle.numbers.specs.declared.Converted.{Converted}
-use Rattle.numbers.specs.declared.Converted.the-variants.{Written, Refused}
-use Rattle.numbers.specs.declared.calls.Described.{Described}
-use Rattle.numbers.specs.declared.calls.Described.the-variants.{Unknown, Known}
-use Rattle.numbers.specs.declared.forms.Form.{Form}
+use Rattle.numbers.proofs.PaperNumbers.{converted-kept}
 use Rattle.promises.specs.Allowed.{Converts}
 
-pub data Outcome (call value : ℕ) (buf : List ℕ) : Converted → List ℕ → Type 0 where
-  unknown : described call ≡ Unknown → Outcome call value buf (Refused unknown-call 0 (length buf)) buf
-  short : (form : Form) → described call ≡ Known form → length buf < needed form value
-      → Outcome call value buf (Refused no-room (needed form value) (length buf)) buf
-  whole : (form : Form) → described call ≡ Known form → needed form value ≤ length buf
-      → Outcome call value buf (Written (length (string form value)) (needed form value) (length buf - length (string form value)))
-      (string form value ++ (terminator form ++ drop (needed form value) buf))
+-- an unknown call is refused, and a known one lays its string
+pub data Outcome (call value : ℕ) (buf : List ℕ) : Answer → List ℕ → Type 0 where
+  refuses : described call ≡ unknown → Outcome call value buf (refusal unknown-call in-text 0 (length buf)) buf
+  lays : {a : Answer} {after : List ℕ} (form : Form) → described call ≡ known form → Laid.Outcome (string form value) (form .terminated) buf a after
+      → Outcome call value buf a after
 
 -- a call has one form, or none
-pub one-form : (call : ℕ) (f g : Form) → described call ≡ Known f → described call ≡ Known g → f ≡ g
+pub one-form : (call : ℕ) (f g : Form) → described call ≡ known f → described call ≡ known g → f ≡ g
 one-form call f g p q = cc
 
-pub not-both : (call : ℕ) (f : Form) → described call ≡ Unknown → described call ≡ Known f → ⊥
+pub not-both : (call : ℕ) (f : Form) → described call ≡ unknown → described call ≡ known f → ⊥
 not-both call f p q = let z : _≡_ {A = ℕ} 0 1 = cc in omega arith
 
-module _ (call value : ℕ) (buf after : List ℕ) (r : Converted) where
-  of-form : (form : Form) → described call ≡ Known form → r ≡ conversion form value (length buf) → after ≡ bufferAfter form value buf
-      → Dec (length buf < needed form value) → Outcome call value buf r after
-  unfolding conversion bufferAfter
-  of-form form k a b (yes less) =
-      subst₂ (Outcome call value buf)
-      (below (length buf) (needed form value) _ _ less refl ∙ sym a)
-      (below (length buf) (needed form value) _ _ less refl ∙ sym b)
-      (short form k less)
-  of-form form k a b (no more) =
-      let room : needed form value ≤ length buf = omega arith in
-      subst₂ (Outcome call value buf)
-      (not-below (length buf) (needed form value) _ _ room refl ∙ sym a)
-      (not-below (length buf) (needed form value) _ _ room refl ∙ sym b)
-      (whole form k room)
+module _ (call value : ℕ) (buf : List ℕ) where
+  described-as : (d : Described) → described call ≡ d → Outcome call value buf (answerIn d value (length buf)) (bufferIn d value buf)
+  described-as unknown k = refuses k
+  described-as (known form) k = lays form k (Laid.outcome (string form value) (form .terminated) buf)
 
-  described-as : (d : Described) → described call ≡ d → r ≡ answerIn d value (length buf) → after ≡ bufferIn d value buf
-      → Outcome call value buf r after
-  described-as Unknown k a b = subst₂ (Outcome call value buf) (sym a) (sym b) (unknown k)
-  described-as (Known form) k a b = of-form form k a b (decLt (length buf) (needed form value))
-
-  pub outcome : Converts call value buf r after → Outcome call value buf r after
+  defined : Outcome call value buf (answerOf call value (length buf)) (bufferOf call value buf)
   unfolding answerOf bufferOf
-  outcome c = described-as (described call) refl (c .answer) (c .buffer)
+  defined = described-as (described call) refl
+
+  pub outcome : (r : Converted) (after : List ℕ) → Converts call value buf r after → Outcome call value buf (convertedAnswer r) after
+  outcome r after c =
+      subst₂ (Outcome call value buf) (sym (ap convertedAnswer (c .answer) ∙ converted-kept call value (length buf))) (sym (c .buffer)) defined

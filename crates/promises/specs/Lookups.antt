@@ -1,8 +1,9 @@
 -- What `check_table` and `look_up` promise, over what their contracts allow.
 use mathlib.Core.Path.{_≡_}
-use mathlib.Core.List.{List, List·Memᴰ}
+use mathlib.Core.List.{List, map, flatten, List·Memᴰ}
 use Prim.Native.Nat.{ℕ, _+_, _≤_}
 use lib.ListN.{length}
+use Rattle.variables.specs.Records.{recordBytes}
 use Rattle.variables.specs.Tables.{checkNumber, checkCount, foundNumber, foundStart, foundLength, checkNumbers, lookUpNumbers, recordsOf}
 use Rattle.variables.specs.declared.Checked.{Checked}
 use Rattle.variables.specs.declared.Found.{Found}
@@ -21,6 +22,12 @@ CheckRefusals = (table : List ℕ) (r : Checked) → Checks table r → List·Me
 
 abbrev pub LookUpRefusals : Type 0
 LookUpRefusals = (table name : List ℕ) (r : Found) → LooksUp table name r → List·Memᴰ (foundNumber r) lookUpNumbers
+
+-- a good table is its records' bytes, one behind the other, and the check says how many they are
+abbrev pub Records : Type 0
+Records =
+    (table : List ℕ) (r : Checked) → Checks table r → checkNumber r ≡ 0
+    → (table ≡ flatten (map recordBytes (recordsOf table))) × (length (recordsOf table) ≡ checkCount r)
 
 -- the value of what was found lies inside the table
 abbrev pub Inside : Type 0

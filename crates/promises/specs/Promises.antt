@@ -37,6 +37,7 @@ pub record Promises : Type 0 where
   pub translate-one-answer : Translations.OneAnswer
   pub translate-refusals : Translations.Refusals
   pub translate-kept : Translations.Kept
+  pub translate-refused : Translations.Refused
   pub translate-bytes : Translations.Bytes
   pub translate-by-reading : Translations.ByReading
   pub translate-larger : Translations.Larger

@@ -31,6 +31,13 @@ Kept =
     (text table : List ℕ) (flags allowance : ℕ) (out after : List ℕ) (r : Translated) → Translates text table flags allowance out r after
     → (translatedAnswer r .number ≡ 0 → ⊥) → after ≡ out
 
+-- its free is the room, and its need 0 but for No room
+abbrev pub Refused : Type 0
+Refused =
+    (text table : List ℕ) (flags allowance : ℕ) (out after : List ℕ) (r : Translated) → Translates text table flags allowance out r after
+    → (translatedAnswer r .number ≡ 0 → ⊥)
+    → (translatedAnswer r .free ≡ length out) × ((translatedAnswer r .number ≡ no-room → ⊥) → translatedAnswer r .need ≡ 0)
+
 -- Demand 2: an accepted text leaves the bytes that its reading gives, as many as the need, and what is behind them
 abbrev pub Bytes : Type 0
 Bytes =

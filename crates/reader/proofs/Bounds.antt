@@ -10,16 +10,16 @@ use lib.ListN.{length, getD, drop}
 use Rattle.paper.specs.Refusals.{longest}
 use Rattle.paper.specs.Bytes.{spaces}
 use Rattle.reader.specs.declared.Reading.{Reading}
-use Rattle.reader.specs.Reading.{numberOf, placeOf, valueOf, numbers, run, goesOn, judged, based, behind, marked, numbered, reading}
+use Rattle.reader.specs.Reading.{readNumber, readPlace, readValue, numbers, run, goesOn, judged, based, inBase, marked, numbered, reading}
 use Rattle.paper.proofs.Choice.{either}
 use Rattle.paper.proofs.Spaces.{inside, spaces-within}
 use Rattle.reader.proofs.Laws.{run-within}
 
 pub record Bounded (r : Reading) : Type 0 where
-  pub number : numberOf r ≤ 18
-  pub place : placeOf r ≤ longest
-  pub value : valueOf r ≤ 4294967295
-  pub listed : List·Memᴰ (numberOf r) numbers
+  pub number : readNumber r ≤ 255
+  pub place : readPlace r ≤ longest
+  pub value : readValue r ≤ 4294967295
+  pub listed : List·Memᴰ (readNumber r) numbers
 
 module _ (text : List ℕ) (whole : Bool) (limit start : ℕ) (short : length text ≤ longest) (s : start ≤ length text) where
   judged-bounded :
@@ -39,9 +39,9 @@ module _ (text : List ℕ) (whole : Bool) (limit start : ℕ) (short : length te
   based-bounded : (first base : ℕ) → first ≤ length text → Bounded (based text whole limit start first base)
   based-bounded first base f = judged-bounded first _ _ f (run-within base first text f)
 
-  behind-bounded : (first base : ℕ) → first ≤ length text → Bounded (behind text whole limit start first base)
-  unfolding behind
-  behind-bounded first base f =
+  in-base-bounded : (first base : ℕ) → first ≤ length text → Bounded (inBase text whole limit start first base)
+  unfolding inBase
+  in-base-bounded first base f =
       either Bounded (ltb base 2 || ltb 36 base)
       (λ _. record { number = omega arith; place = omega arith; value = omega arith; listed = tail (tail (head refl)) }) (λ _. based-bounded first base f)
 
@@ -54,7 +54,7 @@ module _ (text : List ℕ) (whole : Bool) (limit start : ℕ) (short : length te
       (λ _. either Bounded (marked text start mark)
       (λ m.
       let u = eqb-true (getD text mark 0) 95 (and-eq-true-iff (ltb start mark) _ .0 m .1) in
-      behind-bounded (mark + 1) _ (omega (arith, inside text mark (omega arith))))
+      in-base-bounded (mark + 1) _ (omega (arith, inside text mark (omega arith))))
       (λ _. based-bounded start 10 s))
 
 pub reading-bounded : (text : List ℕ) (whole : Bool) (limit : ℕ) → Bounded (reading text whole limit)

@@ -12,8 +12,8 @@ use lib.Dec.{ltb}
 use lib.ListN.{length, getD, drop, length-drop, drop-of-length-le}
 use lib.Seq.{drop-cons}
 use Rattle.paper.proofs.Choice.{either}
-use Rattle.reader.specs.Reading.{digit, run, worth, judged, behind}
-use Rattle.reader.specs.Steps.{cut, DigitIn}
+use Rattle.reader.specs.Reading.{digit, run, worth, judged, inBase}
+use Rattle.reader.specs.inner.Steps.{cut, DigitIn}
 
 module _ (text : List ℕ) (at base : ℕ) where
   pub run-end : length text ≤ at → run base (drop at text) ≡ []
@@ -66,8 +66,8 @@ module _ (text : List ℕ) (whole : Bool) (limit start first : ℕ) where
   unfolding judged
   cut-judged end value = cut-same (judged text whole limit start first end) value (λ h. rw (lt-ltb 4294967295 value h))
 
-  pub cut-behind : (base : ℕ) → behind text whole limit start first (cut base) ≡ behind text whole limit start first base
-  unfolding behind
-  cut-behind base =
-      cut-same (behind text whole limit start first) base
+  pub cut-in-base : (base : ℕ) → inBase text whole limit start first (cut base) ≡ inBase text whole limit start first base
+  unfolding inBase
+  cut-in-base base =
+      cut-same (inBase text whole limit start first) base
       (λ h. rw (le-ltb base 2 (omega arith), lt-ltb 36 base (omega arith)))

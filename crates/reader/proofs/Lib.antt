@@ -2,4 +2,3 @@
 pub mod DigitBytes
 pub mod Laws
 pub mod Bounds
-pub mod ReadBack

@@ -1,3 +1,3 @@
 -- The unsigned reader.
 pub mod Reading
-pub mod Steps
+pub mod inner

@@ -6,8 +6,6 @@ use lib.Dec.{ltb, eqb}
 use lib.ListN.{length, getD, drop}
 use Rattle.paper.specs.Refusals.{no-digit, bad-base, too-big, not-ended, over-limit, over-length, longest}
 use Rattle.paper.specs.Bytes.{spaces, among}
-use Rattle.numbers.specs.declared.forms.Base.{Base}
-use Rattle.numbers.specs.declared.forms.Base.the-variants.{Two, Ten, Sixteen}
 use Rattle.reader.specs.declared.Reading.{Reading}
 use Rattle.reader.specs.declared.Reading.the-variants.{Value, Refused}
 
@@ -36,6 +34,10 @@ valued value end = Value (record { value = value; end = record { 0 = end } })
 abbrev pub goesOn : List ℕ → Bool → ℕ → Bool
 goesOn text whole end = whole && ltb 32 (getD text end 0)
 
+-- the limit that refuses nothing
+abbrev pub no-limit : ℕ
+no-limit = 4294967295
+
 -- digits read from the place `first` up to `end`, and what they are worth; the number's start has the places of 4 and 6
 unfoldable pub judged : List ℕ → Bool → ℕ → ℕ → ℕ → ℕ → ℕ → Reading
 judged text whole limit start first end value =
@@ -52,8 +54,8 @@ based text whole limit start first base =
     judged text whole limit start first (first + length ds) (worth base 0 ds)
 
 -- digits of a base that was read too, and must be 2 to 36
-unfoldable pub behind : List ℕ → Bool → ℕ → ℕ → ℕ → ℕ → Reading
-behind text whole limit start first base =
+unfoldable pub inBase : List ℕ → Bool → ℕ → ℕ → ℕ → ℕ → Reading
+inBase text whole limit start first base =
     let digits = based text whole limit start first base in
     cond (ltb base 2 || ltb 36 base) (refused bad-base start) digits
 
@@ -67,7 +69,7 @@ numbered text whole limit start =
     let lead = run 10 (drop start text) in
     let mark = start + length lead in
     let hex = based text whole limit start (start + 1) 16 in
-    let other = behind text whole limit start (mark + 1) (worth 10 0 lead) in
+    let other = inBase text whole limit start (mark + 1) (worth 10 0 lead) in
     let decimal = based text whole limit start start 10 in
     cond (eqb (getD text start 0) 38) hex (cond (marked text start mark) other decimal)
 
@@ -77,24 +79,18 @@ reading text whole limit =
     cond (ltb longest (length text)) (refused over-length 0) number
 
 -- the paper's numbers for an answer: the refusal's number, 0 where a value was read; the place; the value, 0 where refused
-abbrev pub numberOf : Reading → ℕ
-numberOf (Value n) = 0
-numberOf (Refused number at) = number
+abbrev pub readNumber : Reading → ℕ
+readNumber (Value n) = 0
+readNumber (Refused number at) = number
 
-abbrev pub placeOf : Reading → ℕ
-placeOf (Value n) = n .end .0
-placeOf (Refused number at) = at .0
+abbrev pub readPlace : Reading → ℕ
+readPlace (Value n) = n .end .0
+readPlace (Refused number at) = at .0
 
-abbrev pub valueOf : Reading → ℕ
-valueOf (Value n) = n .value
-valueOf (Refused number at) = 0
+abbrev pub readValue : Reading → ℕ
+readValue (Value n) = n .value
+readValue (Refused number at) = 0
 
 -- the numbers that an answer can have, in the order in which the refusals are looked for
 abbrev pub numbers : List ℕ
 numbers = 0 ∷ over-length ∷ bad-base ∷ no-digit ∷ too-big ∷ not-ended ∷ over-limit ∷ []
-
--- what stands before a number's digits so that they are read in a base: "&", "2_", nothing
-abbrev pub lead : Base → List ℕ
-lead Sixteen = 38 ∷ []
-lead Two = 50 ∷ 95 ∷ []
-lead Ten = []

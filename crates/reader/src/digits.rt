@@ -5,7 +5,7 @@ ghost use Prim.Native.Nat.{_+_, _-_, _≤_, _<_};
 ghost use lib.ListN.{length, drop};
 ghost use Rattle.paper.specs.Bytes.{among};
 ghost use Rattle.reader.specs.Reading.{digit, run, worth, marked};
-ghost use Rattle.reader.specs.Steps.{cut, DigitIn};
+ghost use Rattle.reader.specs.inner.Steps.{cut, DigitIn};
 use paper::bytes::byte;
 
 // The bytes at the ends of the runs of digits, as wide as `wide` makes a byte.

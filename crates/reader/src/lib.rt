@@ -1,6 +1,6 @@
 // The unsigned reader: a number behind spaces, as "&" and hex digits, as digits behind a base and "_", or as decimal digits.
 ghost use mathlib.Core.Path.{_≡_};
-ghost use Rattle.reader.specs.Reading.{based, behind, reading};
+ghost use Rattle.reader.specs.Reading.{based, inBase, reading};
 
 mod digits;
 mod judge;
@@ -11,6 +11,9 @@ use paper::OVER_LENGTH;
 use paper::TextPlace;
 use paper::bytes::byte;
 use paper::bytes::skip_spaces;
+
+// The limit that refuses nothing.
+pub const NO_LIMIT: u32 = 4294967295;
 
 // A value that was read, and the place of the first byte behind it.
 pub struct Number {
@@ -23,7 +26,7 @@ pub enum Reading {
     Refused { number: u8, at: TextPlace },
 }
 
-// Whole: the byte behind the number must be at most 32, or the slice ends there. The largest limit refuses nothing.
+// Whole: the byte behind the number must be at most 32, or the slice ends there.
 pub fn read_unsigned(text: &[u8], whole: bool, limit: u32) -> Reading
     ensures { λ r. ⌜ r ≡ reading (now (text .entry)) whole limit ⌝ }
 {
@@ -37,7 +40,7 @@ pub fn read_unsigned(text: &[u8], whole: bool, limit: u32) -> Reading
     let lead = digits::run_from(text, start, 10);
     let mark = lead.end;
     if digits::marked(text, start, mark) {
-        return behind(text, whole, limit, start, mark + 1, lead.value);
+        return in_base(text, whole, limit, start, mark + 1, lead.value);
     }
     judge::judge(text, whole, limit, start, start, lead)
 }
@@ -51,8 +54,8 @@ fn based(text: &[u8], whole: bool, limit: u32, start: usize, first: usize, base:
 }
 
 // The same in a base that was read before "_", and may be none.
-fn behind(text: &[u8], whole: bool, limit: u32, start: usize, first: usize, base: u64) -> Reading
-    ensures { λ r. ⌜ r ≡ behind (now (text .entry)) whole limit start first base ⌝ }
+fn in_base(text: &[u8], whole: bool, limit: u32, start: usize, first: usize, base: u64) -> Reading
+    ensures { λ r. ⌜ r ≡ inBase (now (text .entry)) whole limit start first base ⌝ }
 {
     if base < 2 {
         return judge::refused(BAD_BASE, start);

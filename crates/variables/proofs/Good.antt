@@ -10,13 +10,15 @@ use lib.ListN.{length, getD, take, drop, length-drop}
 use lib.Seq.{length-take-le}
 use Rattle.paper.specs.Refusals.{longest}
 use Rattle.variables.specs.Records.{kindAt, nameLength, valueLength, valueStart, nextPlace, nameAt, valueAt, allNameBytes, fitting, headed, sized, shaped, Entry, entryAt}
-use Rattle.variables.specs.Tables.{most, sound, refused, scanned, checked, recordsOf, variableAt}
+use Rattle.variables.specs.Tables.{most, sound, badTable, scanned, checked, recordsOf, variableAt}
 use Rattle.variables.specs.declared.Checked.the-variants.{Good}
 use Rattle.variables.proofs.Chain.{Chain, end, next, exact, starts, place-of}
 
--- a record of the right shape: kinds 0 to 2, a name of 1 to 32 bytes, an integer of 4 bytes, and every part inside the slice
+-- a record of the right shape: the mark, kinds 0 to 2, a name of 1 to 32 bytes, an integer of 4 bytes, and every part inside the slice
 pub record Whole (table : List ℕ) (e : Entry) : Type 0 where
   pub starts : e ≡ entryAt table (e .place)
+  pub mark-first : getD table (e .place) 0 ≡ 86
+  pub mark-second : getD table (e .place + 1) 0 ≡ 82
   pub kind : e .kind ≤ 2
   pub name-from : 1 ≤ length (e .name)
   pub name-to : length (e .name) ≤ 32
@@ -35,7 +37,8 @@ module _ (table : List ℕ) (place : ℕ) where
   shaped-whole e =
       let h = both (headed table place) e in
       let s = both (sized table place) (h .1) in
-      let m = both (eqb (getD table (place + 1) 0) 82) (both (eqb (getD table place 0) 86) (h .0) .1) in
+      let first = both (eqb (getD table place 0) 86) (h .0) in
+      let m = both (eqb (getD table (place + 1) 0) 82) (first .1) in
       let n = both (leb 1 (nameLength table place)) (s .0) in
       let t = both (leb (nameLength table place) 32) (n .1) in
       let f = both (fitting (kindAt table place) (valueLength table place)) (t .1) in
@@ -48,6 +51,8 @@ module _ (table : List ℕ) (place : ℕ) where
       let value = length-take-le (valueLength table place) (drop (valueStart table place) table) (omega arith) in
       record {
         starts = refl;
+        mark-first = eqb-true _ _ (first .0);
+        mark-second = eqb-true _ _ (m .0);
         kind = leb-true _ _ (m .1);
         name-from = omega arith;
         name-to = omega arith;
@@ -74,7 +79,7 @@ record Passed (table : List ℕ) (left count n place : ℕ) : Type 0 where
   few : length rows ≤ left
   sounds : (e : Entry) → List·Memᴰ e rows → sound table (e .place) ≡ true
 
-not-refused : {number place n : ℕ} → refused number place ≡ Good n → ⊥
+not-refused : {number place n : ℕ} → badTable number place ≡ Good n → ⊥
 not-refused e = let z : _≡_ {A = ℕ} 0 1 = cc in omega arith
 
 module _ (table : List ℕ) (n : ℕ) where

@@ -1,4 +1,4 @@
--- The lines of an index: what a name means by the lines of a table's records is what it means among the records.
+-- The lines of keys: what a name means by the lines of a table's records is what it means among the records.
 use mathlib.Core.Bool.{Bool, true, false, _&&_, and-false}
 use mathlib.Core.List.{List, _∷_}
 use mathlib.Core.Path.{_≡_, refl, ap, _∙_}
@@ -10,25 +10,25 @@ use lib.Dec.{ltb, eqb}
 use lib.ListN.{length, getD, drop, drop-of-length-le}
 use lib.Seq.{drop-cons}
 use Rattle.paper.proofs.Choice.{either}
-use Rattle.variables.specs.Records.{nextPlace, nameAt, sameName, Entry, entryAt, entries, nothing, means, meaning}
+use Rattle.variables.specs.Records.{nextPlace, nameAt, sameName, Entry, entryAt, entries, absent, present, sought}
 use Rattle.variables.specs.Tables.{most, before}
-use Rattle.variables.specs.Indexes.{keyOf, lineOf, linesOf, names, meaningBy}
-use Rattle.variables.proofs.Keys.{key-small, same-key}
+use Rattle.variables.specs.inner.Keys.{keyOf, lineOf, linesOf, names, soughtBy}
+use Rattle.variables.proofs.KeyLaws.{key-small, same-key}
 
--- one line of any index
-module _ (table index name : List ℕ) (at : ℕ) where
-  pub unmet : length index ≤ at → meaningBy table (drop at index) name ≡ nothing
-  unfolding meaningBy
-  unmet h = rw (drop-of-length-le index {i = at} h)
+-- one line of any keys
+module _ (table keys name : List ℕ) (at : ℕ) where
+  pub unmet : length keys ≤ at → soughtBy table (drop at keys) name ≡ absent
+  unfolding soughtBy
+  unmet h = rw (drop-of-length-le keys {i = at} h)
 
-  module _ (h : at < length index) where
-    pub met : names table (getD index at 0) name ≡ true → meaningBy table (drop at index) name ≡ means (entryAt table (getD index at 0 / 65536))
-    unfolding meaningBy
-    met e = rw (drop-cons index at 0, e)
+  module _ (h : at < length keys) where
+    pub met : names table (getD keys at 0) name ≡ true → soughtBy table (drop at keys) name ≡ present (entryAt table (getD keys at 0 / 65536))
+    unfolding soughtBy
+    met e = rw (drop-cons keys at 0, e)
 
-    pub not-met : names table (getD index at 0) name ≡ false → meaningBy table (drop at index) name ≡ meaningBy table (drop (at + 1) index) name
-    unfolding meaningBy
-    not-met e = rw (add-one, drop-cons index at 0, e)
+    pub not-met : names table (getD keys at 0) name ≡ false → soughtBy table (drop at keys) name ≡ soughtBy table (drop (at + 1) keys) name
+    unfolding soughtBy
+    not-met e = rw (add-one, drop-cons keys at 0, e)
 
 -- a record's line has its place and its key
 module _ (place key : ℕ) (h : key < 65536) where
@@ -53,18 +53,18 @@ module _ (table name : List ℕ) where
       rw (place-in place (keyOf (nameAt table place)) k, key-in place (keyOf (nameAt table place)) k) (same-or-other (nameAt table place) name)
 
   one-more :
-      (place : ℕ) (es : List Entry) → meaningBy table (linesOf es) name ≡ meaning es name →
-      meaningBy table (linesOf (entryAt table place ∷ es)) name ≡ meaning (entryAt table place ∷ es) name
-  unfolding meaningBy meaning entryAt
+      (place : ℕ) (es : List Entry) → soughtBy table (linesOf es) name ≡ sought es name →
+      soughtBy table (linesOf (entryAt table place ∷ es)) name ≡ sought (entryAt table place ∷ es) name
+  unfolding soughtBy sought entryAt
   one-more place es e = rw (one place, e, place-in place (keyOf (nameAt table place)) (key-small (nameAt table place)))
 
-  by-lines : (left stop place : ℕ) → meaningBy table (linesOf (entries left table stop place)) name ≡ meaning (entries left table stop place) name
-  unfolding meaningBy meaning entries
+  by-lines : (left stop place : ℕ) → soughtBy table (linesOf (entries left table stop place)) name ≡ sought (entries left table stop place) name
+  unfolding soughtBy sought entries
   by-lines zero stop place = refl
   by-lines (suc left) stop place =
-      either (λ es. meaningBy table (linesOf es) name ≡ meaning es name) (ltb place stop)
+      either (λ es. soughtBy table (linesOf es) name ≡ sought es name) (ltb place stop)
       (λ _. one-more place (entries left table stop (nextPlace table place)) (by-lines left stop (nextPlace table place)))
       (λ _. refl)
 
-  pub by-index : {index : List ℕ} (stop : ℕ) → index ≡ linesOf (before table stop) → meaningBy table index name ≡ meaning (before table stop) name
-  by-index stop e = ap (λ i. meaningBy table i name) e ∙ by-lines most stop 0
+  pub by-keys : {keys : List ℕ} (stop : ℕ) → keys ≡ linesOf (before table stop) → soughtBy table keys name ≡ sought (before table stop) name
+  by-keys stop e = ap (λ i. soughtBy table i name) e ∙ by-lines most stop 0

@@ -6,38 +6,38 @@ use native.Mathlib.Omega.{arith}
 use lib.Dec.{ltb}
 use lib.ListN.{length, take, drop}
 use Rattle.paper.proofs.Choice.{either}
-use Rattle.variables.specs.Records.{Entry, Meaning, nothing, means, nextPlace, valueAt, entryAt, entries, meaning, sameName}
-use Rattle.variables.specs.Tables.{most, meaningOf, variableAt}
+use Rattle.variables.specs.Records.{Entry, Sought, absent, present, nextPlace, valueAt, entryAt, entries, sought, sameName}
+use Rattle.variables.specs.Tables.{most, soughtIn, variableAt}
 
-pub record Own (table : List ℕ) (m : Meaning) : Type 0 where
-  pub own : (e : Entry) → m ≡ means e → e ≡ entryAt table (e .place)
+pub record Own (table : List ℕ) (m : Sought) : Type 0 where
+  pub own : (e : Entry) → m ≡ present e → e ≡ entryAt table (e .place)
 
-own-nothing : (table : List ℕ) → Own table nothing
-own-nothing table = record { own = λ e p. absurd (clash e p) }
+own-absent : (table : List ℕ) → Own table absent
+own-absent table = record { own = λ e p. absurd (clash e p) }
   where
-    clash : (e : Entry) → nothing ≡ means e → ⊥
+    clash : (e : Entry) → absent ≡ present e → ⊥
     clash e p = let z : _≡_ {A = ℕ} 0 1 = cc in omega arith
 
-own-here : (table : List ℕ) (place : ℕ) → Own table (means (entryAt table place))
+own-here : (table : List ℕ) (place : ℕ) → Own table (present (entryAt table place))
 unfolding entryAt
 own-here table place = record { own = λ e p. here e p }
   where
-    here : (e : Entry) → means (entryAt table place) ≡ means e → e ≡ entryAt table (e .place)
+    here : (e : Entry) → present (entryAt table place) ≡ present e → e ≡ entryAt table (e .place)
     here e p =
         let q : entryAt table place ≡ e = cc in
         sym q ∙ ap (λ (f : Entry). entryAt table (f .place)) q
 
-entries-own : (left : ℕ) (table name : List ℕ) (stop place : ℕ) → Own table (meaning (entries left table stop place) name)
-unfolding meaning entries
-entries-own zero table name stop place = own-nothing table
+entries-own : (left : ℕ) (table name : List ℕ) (stop place : ℕ) → Own table (sought (entries left table stop place) name)
+unfolding sought entries
+entries-own zero table name stop place = own-absent table
 entries-own (suc left) table name stop place =
-    either (λ es. Own table (meaning es name)) (ltb place stop)
+    either (λ es. Own table (sought es name)) (ltb place stop)
     (λ _. either (Own table) (sameName (entryAt table place .name) name) (λ _. own-here table place)
     (λ _. entries-own left table name stop (nextPlace table place)))
-    (λ _. own-nothing table)
+    (λ _. own-absent table)
 
-pub meaning-own : (table name : List ℕ) → Own table (meaningOf table name)
-meaning-own table name = entries-own most table name (length table) 0
+pub sought-own : (table name : List ℕ) → Own table (soughtIn table name)
+sought-own table name = entries-own most table name (length table) 0
 
 pub own-value : (table : List ℕ) (e : Entry) → e ≡ entryAt table (e .place)
     → e .value ≡ take (variableAt table e .length) (drop (variableAt table e .start) table)

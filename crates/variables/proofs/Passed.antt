@@ -1,4 +1,4 @@
--- What a check that came to a place has passed: records one behind the other, and their lines at the start of the index.
+-- What a check that came to a place has passed: records one behind the other, and their lines at the start of the keys.
 use mathlib.Core.List.{List, [], _∷_, _++_, map-append}
 use mathlib.Core.Path.{_≡_, refl, ap, sym, subst, _∙_}
 use Prim.Native.Nat.{ℕ, suc, _+_, _-_, _<_}
@@ -7,53 +7,53 @@ use lib.ListN.{length, getD, set, take, drop, length-map, length-append}
 use lib.Seq.{drop-cons, append-snoc, set-append-seam, take-append-seam}
 use Rattle.variables.specs.Records.{nextPlace, entryAt}
 use Rattle.variables.specs.Tables.{most, before}
-use Rattle.variables.specs.Indexes.{lineOf, linesOf, laidOver}
+use Rattle.variables.specs.inner.Keys.{lineOf, linesOf, laidOver}
 use Rattle.variables.proofs.Chain.{Chain, end, none-left, exact, snoc}
 
 -- one line more behind others
 laid-more :
-    (lines index : List ℕ) (line : ℕ) → length lines < length index →
-    set (laidOver lines index) (length lines) line ≡ laidOver (lines ++ (line ∷ [])) index
-laid-more lines index line h =
+    (lines keys : List ℕ) (line : ℕ) → length lines < length keys →
+    set (laidOver lines keys) (length lines) line ≡ laidOver (lines ++ (line ∷ [])) keys
+laid-more lines keys line h =
     let long : length (lines ++ (line ∷ [])) ≡ suc (length lines) = length-append lines (line ∷ []) ∙ omega arith in
-    rw (long, drop-cons index (length lines) 0 h)
-    (set-append-seam lines (getD index (length lines) 0) (drop (suc (length lines)) index) line
-    ∙ sym (append-snoc lines line (drop (suc (length lines)) index)))
+    rw (long, drop-cons keys (length lines) 0 h)
+    (set-append-seam lines (getD keys (length lines) 0) (drop (suc (length lines)) keys) line
+    ∙ sym (append-snoc lines line (drop (suc (length lines)) keys)))
 
-pub laid-part : (lines index : List ℕ) → take (length lines) (laidOver lines index) ≡ lines
-laid-part lines index = take-append-seam lines (drop (length lines) index)
+pub laid-part : (lines keys : List ℕ) → take (length lines) (laidOver lines keys) ≡ lines
+laid-part lines keys = take-append-seam lines (drop (length lines) keys)
 
-pub record Passed (table index₀ index : List ℕ) (count place : ℕ) : Type 0 where
+pub record Passed (table keys₀ keys : List ℕ) (count place : ℕ) : Type 0 where
   pub chain : Chain table place 0 (before table place)
   pub counted : length (before table place) ≡ count
-  pub laid : index ≡ laidOver (linesOf (before table place)) index₀
+  pub laid : keys ≡ laidOver (linesOf (before table place)) keys₀
 
-module _ (table index₀ : List ℕ) where
-  pub at-first : Passed table index₀ index₀ 0 0
+module _ (table keys₀ : List ℕ) where
+  pub at-first : Passed table keys₀ keys₀ 0 0
   at-first =
       let none = none-left table 0 0 most (omega arith) in
       record {
         chain = subst (Chain table 0 0) (sym none) (end refl);
         counted = ap length none;
-        laid = ap (λ es. laidOver (linesOf es) index₀) (sym none);
+        laid = ap (λ es. laidOver (linesOf es) keys₀) (sym none);
       }
 
-  module _ {index : List ℕ} {count place : ℕ} (p : Passed table index₀ index count place) where
+  module _ {keys : List ℕ} {count place : ℕ} (p : Passed table keys₀ keys count place) where
     pub lines-long : length (linesOf (before table place)) ≡ count
     lines-long = length-map (before table place) lineOf ∙ p .counted
 
-    -- the part of the index from its start up to the count
-    pub passed-part : take (count - 0) index ≡ linesOf (before table place)
+    -- the part of the keys from their start up to the count
+    pub passed-part : take (count - 0) keys ≡ linesOf (before table place)
     passed-part =
         let n : count - 0 ≡ length (linesOf (before table place)) = omega (arith, lines-long) in
-        ap (take (count - 0)) (p .laid) ∙ ap (λ n. take n (laidOver (linesOf (before table place)) index₀)) n
-        ∙ laid-part (linesOf (before table place)) index₀
+        ap (take (count - 0)) (p .laid) ∙ ap (λ n. take n (laidOver (linesOf (before table place)) keys₀)) n
+        ∙ laid-part (linesOf (before table place)) keys₀
 
     module _ (few : count < most) where
       passed-next : before table (nextPlace table place) ≡ before table place ++ (entryAt table place ∷ [])
       passed-next = exact most (snoc (p .chain)) (omega (arith, length-append (before table place) (entryAt table place ∷ []), p .counted))
 
-      passed-next-one : length index₀ ≡ most → Passed table index₀ (set index count (lineOf (entryAt table place))) (count + 1) (nextPlace table place)
+      passed-next-one : length keys₀ ≡ most → Passed table keys₀ (set keys count (lineOf (entryAt table place))) (count + 1) (nextPlace table place)
       passed-next-one long =
           let old = linesOf (before table place) in
           let line = lineOf (entryAt table place) in
@@ -61,12 +61,12 @@ module _ (table index₀ : List ℕ) where
             chain = subst (Chain table (nextPlace table place) 0) (sym passed-next) (snoc (p .chain));
             counted = ap length passed-next ∙ length-append (before table place) (entryAt table place ∷ []) ∙ omega (arith, p .counted);
             laid =
-                ap (λ i. set i count line) (p .laid) ∙ ap (λ n. set (laidOver old index₀) n line) (sym lines-long)
-                ∙ laid-more old index₀ line (omega (arith, lines-long))
-                ∙ ap (λ ls. laidOver ls index₀) (sym (ap linesOf passed-next ∙ map-append lineOf (before table place) (entryAt table place ∷ [])));
+                ap (λ i. set i count line) (p .laid) ∙ ap (λ n. set (laidOver old keys₀) n line) (sym lines-long)
+                ∙ laid-more old keys₀ line (omega (arith, lines-long))
+                ∙ ap (λ ls. laidOver ls keys₀) (sym (ap linesOf passed-next ∙ map-append lineOf (before table place) (entryAt table place ∷ [])));
           }
 
       pub passed-more :
-          {line next : ℕ} → length index₀ ≡ most → line ≡ lineOf (entryAt table place) → next ≡ nextPlace table place →
-          Passed table index₀ (set index count line) (count + 1) next
+          {line next : ℕ} → length keys₀ ≡ most → line ≡ lineOf (entryAt table place) → next ≡ nextPlace table place →
+          Passed table keys₀ (set keys count line) (count + 1) next
       passed-more long l n = rw (l, n) (passed-next-one long)

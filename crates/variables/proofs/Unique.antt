@@ -6,61 +6,61 @@ use mathlib.Core.Path.{_≡_, refl, ap, sym, _∙_}
 use Prim.Native.Nat.{ℕ, _≤_, _<_}
 use native.Mathlib.Omega.{arith}
 use lib.ListN.{length, length-append}
-use Rattle.variables.specs.Records.{nextPlace, nameAt, shaped, sameName, Entry, entryAt, Meaning, nothing, means, meaning, isNothing}
-use Rattle.variables.specs.Tables.{most, isNew, sound, recordsOf, meaningOf}
+use Rattle.variables.specs.Records.{nextPlace, nameAt, shaped, sameName, Entry, entryAt, Sought, absent, present, sought, isAbsent}
+use Rattle.variables.specs.Tables.{most, isNew, sound, recordsOf, soughtIn}
 use Rattle.variables.proofs.Equal.{reflexive, alike, other-length}
 use Rattle.variables.proofs.Chain.{Chain, end, next, exact, place-of, starts, later, split}
 use Rattle.variables.proofs.Good.{Laid, wholes}
 
-not-nothing : {e : Entry} → means e ≡ nothing → ⊥
-not-nothing e = let z : _≡_ {A = ℕ} 0 1 = cc in omega arith
+not-absent : {e : Entry} → present e ≡ absent → ⊥
+not-absent e = let z : _≡_ {A = ℕ} 0 1 = cc in omega arith
 
-unmeans : {e f : Entry} → means e ≡ means f → e ≡ f
-unmeans e = cc
+unpresent : {e f : Entry} → present e ≡ present f → e ≡ f
+unpresent e = cc
 
 -- a name that means nothing among the first records means what it means among the others
-behind : (es fs : List Entry) (name : List ℕ) → meaning es name ≡ nothing → meaning (es ++ fs) name ≡ meaning fs name
-unfolding meaning
+behind : (es fs : List Entry) (name : List ℕ) → sought es name ≡ absent → sought (es ++ fs) name ≡ sought fs name
+unfolding sought
 behind [] fs name e = refl
 behind (x ∷ es) fs name e = go (sameName (x .name) name) refl (behind es fs name) where
   go :
-      (b : Bool) → sameName (x .name) name ≡ b → (meaning es name ≡ nothing → meaning (es ++ fs) name ≡ meaning fs name) →
-      meaning (x ∷ (es ++ fs)) name ≡ meaning fs name
-  go true q further = absurd (not-nothing (rw q at e))
+      (b : Bool) → sameName (x .name) name ≡ b → (sought es name ≡ absent → sought (es ++ fs) name ≡ sought fs name) →
+      sought (x ∷ (es ++ fs)) name ≡ sought fs name
+  go true q further = absurd (not-absent (rw q at e))
   go false q further = rw q (further (rw q at e))
 
 -- what a name means is one of the records, and has an equal name
 pub found :
-    (es : List Entry) (name : List ℕ) {e : Entry} → meaning es name ≡ means e →
+    (es : List Entry) (name : List ℕ) {e : Entry} → sought es name ≡ present e →
     List·Memᴰ e es × (sameName (e .name) name ≡ true)
-unfolding meaning
-found [] name h = absurd (not-nothing (sym h))
+unfolding sought
+found [] name h = absurd (not-absent (sym h))
 found (x ∷ es) name {e} h = go (sameName (x .name) name) refl (found es name) where
   go :
       (b : Bool) → sameName (x .name) name ≡ b →
-      (meaning es name ≡ means e → List·Memᴰ e es × (sameName (e .name) name ≡ true)) →
+      (sought es name ≡ present e → List·Memᴰ e es × (sameName (e .name) name ≡ true)) →
       List·Memᴰ e (x ∷ es) × (sameName (e .name) name ≡ true)
   go true q further =
-      let same : x ≡ e = unmeans (rw q at h) in
+      let same : x ≡ e = unpresent (rw q at h) in
       (head (sym same), rw (← same) q)
   go false q further = let r = further (rw q at h) in (tail (r .0), r .1)
 
-pub same-meaning : (es : List Entry) (a b : List ℕ) → sameName a b ≡ true → meaning es a ≡ meaning es b
-unfolding meaning
-same-meaning [] a b e = refl
-same-meaning (x ∷ es) a b e = rw (alike (x .name) a b e, same-meaning es a b e)
+pub same-sought : (es : List Entry) (a b : List ℕ) → sameName a b ≡ true → sought es a ≡ sought es b
+unfolding sought
+same-sought [] a b e = refl
+same-sought (x ∷ es) a b e = rw (alike (x .name) a b e, same-sought es a b e)
 
 -- a name that no record has means nothing
 unmet :
     (es : List Entry) (name : List ℕ) → ((e : Entry) → List·Memᴰ e es → sameName (e .name) name ≡ false) →
-    meaning es name ≡ nothing
-unfolding meaning
+    sought es name ≡ absent
+unfolding sought
 unmet [] name n = refl
 unmet (x ∷ es) name n = rw (n x (head refl)) (unmet es name (λ e m. n e (tail m)))
 
-is-nothing : (m : Meaning) → isNothing m ≡ true → m ≡ nothing
-is-nothing nothing e = refl
-is-nothing (means x) e = absurd (false≢true e)
+is-absent : (m : Sought) → isAbsent m ≡ true → m ≡ absent
+is-absent absent e = refl
+is-absent (present x) e = absurd (false≢true e)
 
 -- each name is unequal to those behind it
 pub data Apart : List Entry → Type 0 where
@@ -71,24 +71,24 @@ pub data Apart : List Entry → Type 0 where
 
 module _ {n : ℕ} {table : List ℕ} (l : Laid table n) where
   -- a record's own name means that record
-  pub own : {e : Entry} → List·Memᴰ e (recordsOf table) → meaningOf table (e .name) ≡ means e
-  unfolding sound entryAt meaning
+  pub own : {e : Entry} → List·Memᴰ e (recordsOf table) → soughtIn table (e .name) ≡ present e
+  unfolding sound entryAt sought
   own {e} m =
       let s = split (l .chain) m in
       let sum = length-append (s .front) (e ∷ s .back) in
       let few : length (s .front) ≤ most = omega (arith, l .counted, l .few, ap length (s .whole), sum) in
       let named : nameAt table (e .place) ≡ e .name = sym (ap (λ x. x .name) (starts (l .chain) m)) in
       let new : isNew table (e .place) ≡ true = and-eq-true-iff (shaped table (e .place)) _ .0 (l .sounds e m) .1 in
-      let none : meaning (s .front) (e .name) ≡ nothing = rw (← exact most (s .up-to) few, ← named) (is-nothing _ new) in
+      let none : sought (s .front) (e .name) ≡ absent = rw (← exact most (s .up-to) few, ← named) (is-absent _ new) in
       rw (s .whole, behind (s .front) (e ∷ s .back) (e .name) none, reflexive (e .name))
 
   -- two records with equal names are one
   pub unique :
       {e f : Entry} → List·Memᴰ e (recordsOf table) → List·Memᴰ f (recordsOf table) → sameName (e .name) (f .name) ≡ true → e ≡ f
-  unique {e} {f} a b same = unmeans (sym (own a) ∙ same-meaning (recordsOf table) (e .name) (f .name) same ∙ own b)
+  unique {e} {f} a b same = unpresent (sym (own a) ∙ same-sought (recordsOf table) (e .name) (f .name) same ∙ own b)
 
   -- a name of no byte, or of more than 32
-  pub out-of-length : (name : List ℕ) → (1 ≤ length name → 32 < length name) → meaningOf table name ≡ nothing
+  pub out-of-length : (name : List ℕ) → (1 ≤ length name → 32 < length name) → soughtIn table name ≡ absent
   out-of-length name h = unmet (recordsOf table) name differs where
     differs : (e : Entry) → List·Memᴰ e (recordsOf table) → sameName (e .name) name ≡ false
     differs e m =

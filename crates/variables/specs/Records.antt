@@ -1,11 +1,32 @@
--- A record of a table, by the place where its mark starts; equal names; the records from a place on.
+-- A record of a table: its format, its parts by the place where its mark starts, and when it has a record's shape; equal names;
+-- the records from a place on.
 use mathlib.Core.Bool.{Bool, true, false, cond, not, _&&_, _||_}
-use mathlib.Core.List.{List, [], _∷_, map}
+use mathlib.Core.List.{List, [], _∷_, _++_, map}
 use Prim.Native.Nat.{ℕ, zero, suc, _+_}
 use lib.Dec.{ltb, leb, eqb}
 use lib.ListN.{length, getD, take, drop}
 
--- 86, 82, kind, name length, value length, name, value
+abbrev pub string-kind : ℕ
+string-kind = 0
+
+abbrev pub integer-kind : ℕ
+integer-kind = 1
+
+abbrev pub macro-kind : ℕ
+macro-kind = 2
+
+-- a record: the place where its mark starts, and what it holds
+pub record Entry : Type 0 where
+  pub place : ℕ
+  pub kind : ℕ
+  pub name : List ℕ
+  pub value : List ℕ
+
+-- a record's format: the two bytes of the mark, the kind, the name's length, the value's length, the name, the value
+abbrev pub recordBytes : Entry → List ℕ
+recordBytes e = 86 ∷ 82 ∷ e .kind ∷ length (e .name) ∷ length (e .value) ∷ (e .name ++ e .value)
+
+-- the same fields, read by their offsets from a place of any bytes
 abbrev pub kindAt : List ℕ → ℕ → ℕ
 kindAt table place = getD table (place + 2) 0
 
@@ -27,6 +48,9 @@ nameAt table place = take (nameLength table place) (drop (place + 5) table)
 unfoldable pub valueAt : List ℕ → ℕ → List ℕ
 valueAt table place = take (valueLength table place) (drop (valueStart table place) table)
 
+unfoldable pub entryAt : List ℕ → ℕ → Entry
+entryAt table place = record { place = place; kind = kindAt table place; name = nameAt table place; value = valueAt table place }
+
 -- a byte that a name may have: 33 to 126, and not 34, 60 or 62
 unfoldable pub nameByte : ℕ → Bool
 nameByte c = leb 33 c && (leb c 126 && (not (eqb c 34) && (not (eqb c 60) && not (eqb c 62))))
@@ -35,14 +59,15 @@ abbrev pub allNameBytes : List ℕ → Bool
 allNameBytes [] = true
 allNameBytes (c ∷ cs) = nameByte c && allNameBytes cs
 
--- the mark, kinds 0 to 2, a name of 1 to 32 bytes, an integer of 4 bytes, all of it inside the slice, and each name byte allowed
+-- the mark, and a kind that there is
 unfoldable pub headed : List ℕ → ℕ → Bool
-headed table place = eqb (getD table place 0) 86 && (eqb (getD table (place + 1) 0) 82 && leb (kindAt table place) 2)
+headed table place = eqb (getD table place 0) 86 && (eqb (getD table (place + 1) 0) 82 && leb (kindAt table place) macro-kind)
 
 -- an integer has a value of 4 bytes
 unfoldable pub fitting : ℕ → ℕ → Bool
-fitting kind size = not (eqb kind 1) || eqb size 4
+fitting kind size = not (eqb kind integer-kind) || eqb size 4
 
+-- a name of 1 to 32 bytes, a value that fits its kind, and all of it inside the slice
 unfoldable pub sized : List ℕ → ℕ → Bool
 sized table place =
     leb 1 (nameLength table place)
@@ -66,15 +91,6 @@ sameBytes (x ∷ xs) (y ∷ ys) = eqb x y && sameBytes xs ys
 unfoldable pub sameName : List ℕ → List ℕ → Bool
 sameName a b = sameBytes (map small a) (map small b)
 
-pub record Entry : Type 0 where
-  pub place : ℕ
-  pub kind : ℕ
-  pub name : List ℕ
-  pub value : List ℕ
-
-unfoldable pub entryAt : List ℕ → ℕ → Entry
-entryAt table place = record { place = place; kind = kindAt table place; name = nameAt table place; value = valueAt table place }
-
 -- the records from a place on that start before `stop`, at most so many
 unfoldable pub entries : ℕ → List ℕ → ℕ → ℕ → List Entry
 entries zero table stop place = []
@@ -82,15 +98,15 @@ entries (suc left) table stop place =
     let rest = entries left table stop (nextPlace table place) in
     cond (ltb place stop) (entryAt table place ∷ rest) []
 
--- what a name means among records: nothing, or the first record that has it
-pub data Meaning : Type 0 where
-  nothing : Meaning
-  means : Entry → Meaning
+-- a name sought among records: the first that has it, if any
+pub data Sought : Type 0 where
+  absent : Sought
+  present : Entry → Sought
 
-abbrev pub isNothing : Meaning → Bool
-isNothing nothing = true
-isNothing (means e) = false
+abbrev pub isAbsent : Sought → Bool
+isAbsent absent = true
+isAbsent (present e) = false
 
-unfoldable pub meaning : List Entry → List ℕ → Meaning
-meaning [] name = nothing
-meaning (e ∷ es) name = let rest = meaning es name in cond (sameName (e .name) name) (means e) rest
+unfoldable pub sought : List Entry → List ℕ → Sought
+sought [] name = absent
+sought (e ∷ es) name = let rest = sought es name in cond (sameName (e .name) name) (present e) rest

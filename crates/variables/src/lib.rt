@@ -2,48 +2,62 @@
 ghost use mathlib.Core.Path.{_≡_};
 ghost use Prim.Native.Nat.{_<_, _≤_};
 ghost use lib.ListN.{length, take, drop};
-ghost use Rattle.variables.specs.Indexes.{linesOf, laidOver, reach};
-ghost use Rattle.variables.specs.Tables.{refused, before, isNew, sound, scanned, most, checked, lookedUp};
+ghost use Rattle.variables.specs.Tables.{badTable, before, isNew, sound, scan, most, checked, lookedUp};
+ghost use Rattle.variables.specs.inner.Keys.{linesOf, laidOver, reach, KeyedAs, inGoodTable};
 
-pub mod index;
 pub mod integers;
+pub mod keys;
+pub mod kinds;
 pub mod names;
 mod records;
 
-use index::find;
-use index::line_at;
+use keys::find;
+use keys::line_at;
+use kinds::Kind;
 use paper::BAD_TABLE;
 use paper::LONGEST;
 use paper::OVER_LENGTH;
 use paper::RecordPlace;
 
+// The most records that a table may have.
+pub const MOST_RECORDS: usize = 256;
+
 pub enum Checked {
     Good(usize),
-    Refused { number: u8, at: RecordPlace },
+    BadTable { number: u8, at: RecordPlace },
 }
 
-// A variable that was found: its record's place, its kind (0 a string, 1 an integer, 2 a macro), and where its value lies.
+// A variable that was found: its record's place, its kind, and where its value lies.
 pub struct Variable {
     pub at: RecordPlace,
-    pub kind: u8,
+    pub kind: Kind,
     pub start: usize,
     pub length: usize,
 }
 
 pub enum Found {
     At(Variable),
-    Nothing,
+    Unknown,
     // The table is not good.
-    Unsound { number: u8, at: RecordPlace },
+    BadTable { number: u8, at: RecordPlace },
 }
 
-// The most records that a table may have.
-const MOST: usize = 256;
+// What a look-up by keys answers.
+pub enum Match {
+    Record(Variable),
+    Missing,
+}
 
-fn refused(number: u8, place: usize) -> Checked
-    ensures { λ r. ⌜ r ≡ refused number place ⌝ }
+// A check's answer, and the keys of the records that it found good, for look-ups: a line for each, and zeros behind them.
+pub struct Keyed {
+    pub checked: Checked,
+    pub keys: [u32; MOST_RECORDS],
+}
+
+fn bad_table(number: u8, place: usize) -> Checked
+    ensures { λ r. ⌜ r ≡ badTable number place ⌝ }
 {
-    Checked::Refused {
+    Checked::BadTable {
         number,
         at: RecordPlace(place),
     }
@@ -53,65 +67,74 @@ fn refused(number: u8, place: usize) -> Checked
 pub fn check_table(table: &[u8]) -> Checked
     ensures { λ r. ⌜ r ≡ checked (now (table .entry)) ⌝ }
 {
-    let mut index = [0u32; 256];
-    index_table(table, &mut index)
+    let keyed = key_table(table);
+    keyed.checked
 }
 
-// The same, and the index of the records that were found good, for look-ups.
-pub fn index_table(table: &[u8], index: &mut [u32; 256]) -> Checked
+// The same, with the keys. They are handed back by value, so that a refusal changes nothing that was lent.
+pub fn key_table(table: &[u8]) -> Keyed
+    ensures { λ r. ⌜ KeyedAs (now (table .entry)) r ⌝ }
+{
+    let mut keys = [0u32; MOST_RECORDS];
+    let checked = check(table, &mut keys);
+    Keyed { checked, keys }
+}
+
+// The length is tested before the records are.
+fn check(table: &[u8], keys: &mut [u32]) -> Checked
+    requires { ⌜ length (now keys) ≡ most ⌝ }
     ensures answer { λ r. ⌜ r ≡ checked (now (table .entry)) ⌝ }
-    ensures index { λ r. ⌜ now (index .exit) ≡ laidOver (linesOf (before (now (table .entry)) (reach (now (table .entry)) r))) (now (index .entry)) ⌝ }
+    ensures keys { λ r. ⌜ now (keys .exit) ≡ laidOver (linesOf (before (now (table .entry)) (reach (now (table .entry)) r))) (now (keys .entry)) ⌝ }
 {
     if LONGEST < table.len() {
-        return refused(OVER_LENGTH, 0);
+        return bad_table(OVER_LENGTH, 0);
     }
-    scan(table, index)
+    scan(table, keys)
 }
 
 // The records one behind the other, up to the first bad one.
-fn scan(table: &[u8], index: &mut [u32]) -> Checked
-    requires { ⌜ (length (now table) ≤ 65535) × (length (now index) ≡ 256) ⌝ }
-    ensures answer { λ r. ⌜ r ≡ scanned most 0 (now (table .entry)) 0 ⌝ }
-    ensures index { λ r. ⌜ now (index .exit) ≡ laidOver (linesOf (before (now (table .entry)) (reach (now (table .entry)) r))) (now (index .entry)) ⌝ }
+fn scan(table: &[u8], keys: &mut [u32]) -> Checked
+    requires { ⌜ (length (now table) ≤ 65535) × (length (now keys) ≡ most) ⌝ }
+    ensures answer { λ r. ⌜ r ≡ scan (now (table .entry)) ⌝ }
+    ensures keys { λ r. ⌜ now (keys .exit) ≡ laidOver (linesOf (before (now (table .entry)) (reach (now (table .entry)) r))) (now (keys .entry)) ⌝ }
 {
     let mut count = 0;
     let mut place = 0;
     while place < table.len() {
-        if count == MOST {
-            return refused(BAD_TABLE, place);
+        if count == MOST_RECORDS {
+            return bad_table(BAD_TABLE, place);
         }
-        if is_sound(table, &index[0..count], place) {
-            index[count] = line_at(table, place);
+        if is_sound(table, &keys[0..count], place) {
+            keys[count] = line_at(table, place);
             place = records::next_place(table, place);
             count += 1;
         } else {
-            return refused(BAD_TABLE, place);
+            return bad_table(BAD_TABLE, place);
         }
     }
     Checked::Good(count)
 }
 
-fn is_sound(table: &[u8], index: &[u32], place: usize) -> bool
+fn is_sound(table: &[u8], keys: &[u32], place: usize) -> bool
     requires place { ⌜ place < length (now table) ⌝ }
-    requires index { ⌜ now index ≡ linesOf (before (now table) place) ⌝ }
+    requires keys { ⌜ now keys ≡ linesOf (before (now table) place) ⌝ }
     ensures { λ r. ⌜ r ≡ sound (now (table .entry)) place ⌝ }
 {
     if records::is_shaped(table, place) {
-        return is_new(table, index, place);
+        return is_new(table, keys, place);
     }
     false
 }
 
 // Whether no record before this one has an equal name.
-fn is_new(table: &[u8], index: &[u32], place: usize) -> bool
+fn is_new(table: &[u8], keys: &[u32], place: usize) -> bool
     requires place { ⌜ place < length (now table) ⌝ }
-    requires index { ⌜ now index ≡ linesOf (before (now table) place) ⌝ }
+    requires keys { ⌜ now keys ≡ linesOf (before (now table) place) ⌝ }
     ensures { λ r. ⌜ r ≡ isNew (now (table .entry)) place ⌝ }
 {
-    match find(table, index, records::name_at(table, place)) {
-        Found::Nothing => true,
-        Found::At(_) => false,
-        Found::Unsound { number: _, at: _ } => false,
+    match find(table, keys, records::name_at(table, place)) {
+        Match::Record(_) => false,
+        Match::Missing => true,
     }
 }
 
@@ -119,10 +142,21 @@ fn is_new(table: &[u8], index: &[u32], place: usize) -> bool
 pub fn look_up(table: &[u8], name: &[u8]) -> Found
     ensures { λ r. ⌜ r ≡ lookedUp (now (table .entry)) (now (name .entry)) ⌝ }
 {
-    let mut index = [0u32; 256];
-    match index_table(table, &mut index) {
-        Checked::Good(count) => find(table, &index[0..count], name),
-        Checked::Refused { number, at } => Found::Unsound { number, at },
+    let keyed = key_table(table);
+    let checked = keyed.checked;
+    let keys = keyed.keys;
+    match checked {
+        Checked::Good(count) => as_found(find(table, &keys[0..count], name)),
+        Checked::BadTable { number, at } => Found::BadTable { number, at },
+    }
+}
+
+fn as_found(m: Match) -> Found
+    ensures { λ r. ⌜ r ≡ inGoodTable m ⌝ }
+{
+    match m {
+        Match::Record(v) => Found::At(v),
+        Match::Missing => Found::Unknown,
     }
 }
 

@@ -3,7 +3,7 @@ ghost use mathlib.Core.Path.{_≡_};
 ghost use mathlib.Core.Bool.{cond};
 ghost use Prim.Native.Nat.{_<_, _≤_, min};
 ghost use lib.Dec.{eqb};
-ghost use Rattle.variables.specs.Indexes.{keyOf};
+ghost use Rattle.variables.specs.inner.Keys.{keyOf};
 ghost use Rattle.variables.specs.Records.{nameByte, allNameBytes, small, sameName};
 
 // A byte that a name may have. The quote, "<" and ">" mean something in a text.

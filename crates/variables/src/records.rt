@@ -5,6 +5,7 @@ ghost use lib.ListN.{length, getD, take, drop};
 ghost use Rattle.variables.specs.Records.{nameAt, nextPlace, fitting, headed, sized, shaped, entryAt};
 ghost use Rattle.variables.specs.Tables.{variableAt};
 use crate::Variable;
+use crate::kinds::kind_of;
 use crate::names::all_name_bytes;
 use paper::RecordPlace;
 use paper::bytes::byte;
@@ -49,9 +50,10 @@ pub(crate) fn variable_at(table: &[u8], place: usize) -> Variable
     requires { ⌜ place ≤ 2 ^ 63 ⌝ }
     ensures { λ r. ⌜ r ≡ variableAt (now (table .entry)) (entryAt (now (table .entry)) place) ⌝ }
 {
+    let kind = kind_of(byte(table, place + 2));
     Variable {
         at: RecordPlace(place),
-        kind: byte(table, place + 2),
+        kind,
         start: place + 5 + length_at(table, place + 3),
         length: length_at(table, place + 4),
     }

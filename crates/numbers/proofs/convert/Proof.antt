@@ -2,18 +2,14 @@
 use mathlib.Core.Path.{_≡_, refl, ap, sym, _∙_}
 use mathlib.Core.List.{List}
 use Prim.Native.Nat.{ℕ, _/_}
-use native.Mathlib.Omega.{arith}
 use lib.ListN.{length}
 use borrow.Author.Needs.{needs}
-use Rattle.numbers.specs.Strings.{conversion, bufferAfter}
-use Rattle.numbers.specs.Calls.{described, answerIn, bufferIn, answerOf, bufferOf}
-use Rattle.numbers.specs.Steps.{formOf, fixedForm}
+use Rattle.numbers.specs.Strings.{Form}
+use Rattle.numbers.specs.Calls.{unknown, known, described, answerIn, bufferIn, answerOf, bufferOf, convertedBy}
+use Rattle.numbers.specs.inner.Steps.{formOf}
 use Rattle.numbers.specs.declared.Converted.{Converted}
-use Rattle.numbers.specs.declared.calls.Described.the-variants.{Unknown, Known}
 use Rattle.numbers.specs.declared.calls.Family.{Family}
-use Rattle.numbers.specs.declared.forms.Base.the-variants.{Two, Sixteen}
-use Rattle.numbers.specs.declared.forms.Form.{Form}
-use Rattle.numbers.proofs.Bounds.{bits-range}
+use Rattle.numbers.proofs.Bounds.{hex-digits, binary-digits}
 use Rattle.numbers.proofs.convert.Statement.{statement}
 use Rattle.numbers.proofs.convert.Tie as tie
 
@@ -30,7 +26,7 @@ bits-requires : tie.Need-bits-requires
 bits-requires c κs = search needs
 
 write-fixed-requires : tie.Need-write-fixed-requires
-write-fixed-requires c κs = omega (arith, c .before .bits .ensures, bits-range (c .before .before .before .family .given .0 .0))
+write-fixed-requires c κs = ap (λ n. n / 4) (c .before .bits .ensures) ∙ hex-digits (c .before .before .before .family .given .0 .0)
 
 enum-known-family-2 : tie.Need-enum-known-family-2
 enum-known-family-2 c = search needs
@@ -39,7 +35,7 @@ bits-requires-2 : tie.Need-bits-requires-2
 bits-requires-2 c κs = search needs
 
 write-fixed-requires-2 : tie.Need-write-fixed-requires-2
-write-fixed-requires-2 c κs = omega (arith, c .before .bits2 .ensures, bits-range (c .before .before .before .family2 .given .0 .0))
+write-fixed-requires-2 c κs = c .before .bits2 .ensures ∙ binary-digits (c .before .before .before .family2 .given .0 .0)
 
 enum-known-family-3 : tie.Need-enum-known-family-3
 enum-known-family-3 c = search needs
@@ -67,41 +63,37 @@ write-decimal-requires-4 c κs = search needs
 
 -- the conversion of a family's form is the call's
 answers : (c : tie.After-family-of) (family : Family) (form : Form) {r : Converted} {left : List ℕ}
-    → c .family-of .result ≡ family → Known form ≡ formOf family
-    → (r ≡ conversion form (c .before .before .args .value) (length (c .before .before .args .buf .now)))
-    × (left ≡ bufferAfter form (c .before .before .args .value) (c .before .before .args .buf .now))
-    → (r ≡ answerOf (c .before .before .args .call) (c .before .before .args .value) (length (c .before .before .args .buf .now)))
+    → c .family-of .result ≡ family → known form ≡ formOf family
+    → (r ≡ convertedBy (answerIn (known form) (c .before .before .args .value) (length (c .before .before .args .buf .now))))
+    × (left ≡ bufferIn (known form) (c .before .before .args .value) (c .before .before .args .buf .now))
+    → (r ≡ convertedBy (answerOf (c .before .before .args .call) (c .before .before .args .value) (length (c .before .before .args .buf .now))))
     × (left ≡ bufferOf (c .before .before .args .call) (c .before .before .args .value) (c .before .before .args .buf .now))
 unfolding answerOf bufferOf
 answers c family form e f (answer, left) =
     let a = c .before .before .args in
-    let known = f ∙ sym (ap formOf e) ∙ c .family-of .ensures in
-    (answer ∙ ap (λ d. answerIn d (a .value) (length (a .buf .now))) known, left ∙ ap (λ d. bufferIn d (a .value) (a .buf .now)) known)
+    let call = f ∙ sym (ap formOf e) ∙ c .family-of .ensures in
+    (answer ∙ ap (λ d. convertedBy (answerIn d (a .value) (length (a .buf .now)))) call, left ∙ ap (λ d. bufferIn d (a .value) (a .buf .now)) call)
 
 returns : tie.Need-returns
 unfolding answerOf bufferOf
 returns c =
     let a = c .before .before .before .before .args in
-    let unknown : Unknown ≡ described (a .call) = sym (ap formOf (c .enum-told .given .1)) ∙ c .before .before .family-of .ensures in
-    (ap (λ d. answerIn d (a .value) (length (a .buf .now))) unknown, ap (λ d. bufferIn d (a .value) (a .buf .now)) unknown)
+    let call : unknown ≡ described (a .call) = sym (ap formOf (c .enum-told .given .1)) ∙ c .before .before .family-of .ensures in
+    (ap (λ d. convertedBy (answerIn d (a .value) (length (a .buf .now)))) call, ap (λ d. bufferIn d (a .value) (a .buf .now)) call)
 
 same-length : tie.Need-same-length
 same-length c = search needs
 
 returns-2 : tie.Need-returns-2
 returns-2 c =
-    let width = c .before .before .before .before .before .before .family .given .0 .0 in
-    answers (c .before .before .before .before .before .before .before .before) _ (fixedForm Sixteen _ width) (c .before .before .before .before .before .before .family .given .1) (ap (λ n. Known (fixedForm Sixteen (n / 4) width)) (c .before .before .before .before .bits .ensures))
-    (c .before .before .write-fixed .ensures)
+    answers (c .before .before .before .before .before .before .before .before) _ _ (c .before .before .before .before .before .before .family .given .1) refl (c .before .before .write-fixed .ensures)
 
 same-length-2 : tie.Need-same-length-2
 same-length-2 c = search needs
 
 returns-3 : tie.Need-returns-3
 returns-3 c =
-    let width = c .before .before .before .before .before .before .family2 .given .0 .0 in
-    answers (c .before .before .before .before .before .before .before .before) _ (fixedForm Two _ width) (c .before .before .before .before .before .before .family2 .given .1) (ap (λ n. Known (fixedForm Two n width)) (c .before .before .before .before .bits2 .ensures))
-    (c .before .before .write-fixed2 .ensures)
+    answers (c .before .before .before .before .before .before .before .before) _ _ (c .before .before .before .before .before .before .family2 .given .1) refl (c .before .before .write-fixed2 .ensures)
 
 same-length-3 : tie.Need-same-length-3
 same-length-3 c = search needs

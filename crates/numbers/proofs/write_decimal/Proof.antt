@@ -1,4 +1,5 @@
 -- `write_decimal` meets its contract: it writes its form's parts.
+use mathlib.Core.Bool.{true}
 use borrow.Author.Needs.{needs}
 use Rattle.numbers.specs.Calls.{decimal}
 use Rattle.numbers.proofs.Parts.{converted}
@@ -22,7 +23,7 @@ returns c =
     let a = c .before .before .before .before .before .before .before .args in
     let number = c .before .before .before .before .before .number-in in
     let digits = c .before .before .before .before .count-decimal in
-    converted (decimal (a .signed) (a .spaced) (a .width)) (a .value) (number .result) (digits .result) (number .ensures) (digits .ensures .0)
+    converted (decimal (a .signed) (a .spaced) true (a .width)) (a .value) (number .result) (digits .result) (number .ensures) (digits .ensures .0)
     (a .buf .now) (c .before .before .write-number .ensures)
 
 pub write-decimal-spec : {M : Type 1} → statement M

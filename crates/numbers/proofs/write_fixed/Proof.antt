@@ -1,10 +1,9 @@
 -- `write_fixed` meets its contract: it writes its form's parts.
-use mathlib.Core.Path.{_≡_, refl}
-use native.Mathlib.Omega.{arith}
+use mathlib.Core.Path.{_≡_}
 use mathlib.Core.Bool.{false}
 use borrow.Author.Needs.{needs}
-use Rattle.paper.proofs.Choice.{other}
-use Rattle.numbers.specs.Steps.{fixedForm, numberIn}
+use Rattle.numbers.specs.Calls.{fixed}
+use Rattle.numbers.specs.inner.Steps.{numberIn}
 use Rattle.numbers.specs.declared.size.Number.{Number}
 use Rattle.numbers.proofs.Parts.{converted}
 use Rattle.numbers.proofs.write_fixed.Statement.{statement}
@@ -21,13 +20,12 @@ same-length c = search needs
 
 returns : tie.Need-returns
 returns c =
-    let a = c .before .before .before .before .before .before .args in
+    let start = c .before .before .before .before .before .before in
+    let a = start .args in
     let low = c .before .before .before .before .low-bits in
     let number : Number = record { negative = false; magnitude = low .result } in
     let same : number ≡ numberIn false (a .width) (a .value) = λ i. record { negative = false; magnitude = low .ensures i } in
-    converted (fixedForm (a .base) (a .digits) (a .width)) (a .value) number (a .digits) same
-    (other (a .digits) 0 _ _ (λ e. omega (arith, c .before .before .before .before .before .before .pre)) refl)
-    (a .buf .now) (c .before .before .write-number .ensures)
+    converted (fixed (a .base) (a .width)) (a .value) number (a .digits) same (start .pre) (a .buf .now) (c .before .before .write-number .ensures)
 
 pub write-fixed-spec : {M : Type 1} → statement M
 write-fixed-spec = tie.close (tie.spec low-bits-requires write-number-requires same-length returns)

@@ -11,23 +11,23 @@ use lib.ListN.{length, getD, drop}
 use Rattle.paper.specs.Bytes.{spaces}
 use Rattle.paper.proofs.Spaces.{spaces-within}
 use Rattle.reader.specs.declared.Reading.{Reading}
-use Rattle.reader.specs.Reading.{run, worth, judged, behind, marked, numbered, reading}
-use Rattle.reader.specs.Steps.{cut}
-use Rattle.reader.proofs.Laws.{run-within, cut-judged, cut-behind}
+use Rattle.reader.specs.Reading.{run, worth, judged, inBase, marked, numbered, reading}
+use Rattle.reader.specs.inner.Steps.{cut}
+use Rattle.reader.proofs.Laws.{run-within, cut-judged, cut-in-base}
 use Rattle.reader.proofs.read_unsigned.Statement.{statement}
 use Rattle.reader.proofs.read_unsigned.Tie as tie
 
 -- with no "&" at the start, the decimal digits there, which end at `end` and are worth `value`, cut, are a base or the number
 abbrev split : List ℕ → Bool → ℕ → ℕ → ℕ → ℕ → Reading
 split text whole limit start end value =
-    cond (marked text start end) (behind text whole limit start (end + 1) value) (judged text whole limit start start end value)
+    cond (marked text start end) (inBase text whole limit start (end + 1) value) (judged text whole limit start start end value)
 
 led :
     (text : List ℕ) (whole : Bool) (limit start : ℕ) {end value : ℕ} → (getD text start 0 ≡ 38 → ⊥) →
     end ≡ start + length (run 10 (drop start text)) → value ≡ cut (worth 10 0 (run 10 (drop start text))) →
     numbered text whole limit start ≡ split text whole limit start end value
 unfolding numbered
-led text whole limit start n e v = rw (ne-eqb (getD text start 0) 38 n, e, v, cut-behind, cut-judged)
+led text whole limit start n e v = rw (ne-eqb (getD text start 0) 38 n, e, v, cut-in-base, cut-judged)
 
 -- where the start is known: it is inside the text, and `numbered` reads on from there
 module _ (c : tie.After-skip-spaces) where
@@ -90,16 +90,16 @@ run-from-requires c κs = search needs
 marked-requires : tie.Need-marked-requires
 marked-requires c κs = search needs
 
-add-behind : tie.Need-add-behind
-add-behind c =
+add-in-base : tie.Need-add-in-base
+add-in-base c =
     let s = c .before .before .before .before .before in
     omega (arith, start-within s, run-within 10 (s .skip-spaces .result) (text s) (start-within s))
 
-behind-requires : tie.Need-behind-requires
-behind-requires c κs = search needs
+in-base-requires : tie.Need-in-base-requires
+in-base-requires c κs = search needs
 
 returns-3 : tie.Need-returns-3
-returns-3 c = rw (c .behind .ensures, from-lead (c .before .before .before), ← c .before .before .marked .ensures, c .before .if3 .taken)
+returns-3 c = rw (c .in-base .ensures, from-lead (c .before .before .before), ← c .before .before .marked .ensures, c .before .if3 .taken)
 
 judge-requires : tie.Need-judge-requires
 judge-requires c κs = search needs
@@ -120,8 +120,8 @@ read-unsigned-spec =
     returns-2
     run-from-requires
     marked-requires
-    add-behind
-    behind-requires
+    add-in-base
+    in-base-requires
     returns-3
     judge-requires
     returns-4)

@@ -4,22 +4,22 @@ use mathlib.Core.List.{List}
 use mathlib.Core.Path.{_≡_, refl, ap, sym, _∙_}
 use Prim.Native.Nat.{ℕ}
 use borrow.Author.Needs.{needs}
-use Rattle.variables.specs.Records.{nameAt, Meaning, nothing, means, meaning, isNothing}
-use Rattle.variables.specs.Tables.{before, isNew, foundAs}
-use Rattle.variables.specs.declared.Found.{Found}
-use Rattle.variables.specs.declared.Found.the-variants.{At, Nothing, Unsound}
-use Rattle.variables.proofs.Lines.{by-index}
+use Rattle.variables.specs.Records.{nameAt, Sought, absent, present, sought, isAbsent}
+use Rattle.variables.specs.Tables.{before, isNew}
+use Rattle.variables.specs.inner.Keys.{matchAs}
+use Rattle.variables.specs.declared.Match.{Match}
+use Rattle.variables.specs.declared.Match.the-variants.{Record, Missing}
+use Rattle.variables.proofs.Lines.{by-keys}
 use Rattle.variables.proofs.is_new.Statement.{statement}
 use Rattle.variables.proofs.is_new.Tie as tie
 
-abbrev none : Found → Bool
-none Nothing = true
-none (At v) = false
-none (Unsound number at) = false
+abbrev none : Match → Bool
+none Missing = true
+none (Record v) = false
 
-none-found : (table : List ℕ) (m : Meaning) → none (foundAs table m) ≡ isNothing m
-none-found table nothing = refl
-none-found table (means e) = refl
+none-found : (table : List ℕ) (m : Sought) → none (matchAs table m) ≡ isAbsent m
+none-found table absent = refl
+none-found table (present e) = refl
 
 -- where the look-up has ended
 module _ (c : tie.After-find) where
@@ -34,8 +34,8 @@ module _ (c : tie.After-find) where
 
   known : none (c .find .result) ≡ isNew table place
   known =
-      ap none (c .find .ensures ∙ ap (foundAs table) (by-index table _ place (start .pre .1) ∙ ap (meaning (before table place)) (c .before .name-at .ensures)))
-      ∙ none-found table (meaning (before table place) (nameAt table place))
+      ap none (c .find .ensures ∙ ap (matchAs table) (by-keys table _ place (start .pre .1) ∙ ap (sought (before table place)) (c .before .name-at .ensures)))
+      ∙ none-found table (sought (before table place) (nameAt table place))
 
 name-at-requires : tie.Need-name-at-requires
 name-at-requires c κs = search needs
@@ -49,17 +49,11 @@ enum-told c = search needs
 enum-told-2 : tie.Need-enum-told-2
 enum-told-2 c = search needs
 
-enum-told-3 : tie.Need-enum-told-3
-enum-told-3 c = search needs
-
 returns : tie.Need-returns
 returns c = sym (ap none (c .enum-told .given .1)) ∙ known (c .before .before)
 
 returns-2 : tie.Need-returns-2
 returns-2 c = sym (ap none (c .enum-told2 .given .1)) ∙ known (c .before .before)
-
-returns-3 : tie.Need-returns-3
-returns-3 c = sym (ap none (c .enum-told3 .given .1)) ∙ known (c .before .before)
 
 pub is-new-spec : {M : Type 1} → statement M
 is-new-spec =
@@ -69,7 +63,5 @@ is-new-spec =
     find-requires
     enum-told
     enum-told-2
-    enum-told-3
     returns
-    returns-2
-    returns-3)
+    returns-2)

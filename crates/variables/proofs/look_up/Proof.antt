@@ -1,29 +1,38 @@
 -- `look_up` meets its contract: a table that is not good is refused, and in a good one the name is looked for.
+use mathlib.Core.List.{List}
 use mathlib.Core.Path.{_≡_, refl, ap, sym, _∙_}
+use Prim.Native.Nat.{ℕ}
 use borrow.Author.Needs.{needs}
-use Rattle.variables.specs.Tables.{foundAs, foundIn, lookedUp}
+use Rattle.variables.specs.Records.{Sought, absent, present}
+use Rattle.variables.specs.Tables.{soughtIn, foundAs, foundIn, lookedUp}
+use Rattle.variables.specs.inner.Keys.{matchAs, inGoodTable}
 use Rattle.variables.specs.declared.Checked.{Checked}
-use Rattle.variables.proofs.Indexed.{lines-inside, all-lines, indexed}
+use Rattle.variables.proofs.KeysFind.{lines-inside, all-lines, sought-by-keys}
 use Rattle.variables.proofs.look_up.Statement.{statement}
 use Rattle.variables.proofs.look_up.Tie as tie
 
+-- what a look-up by keys hands out
+handed : (table : List ℕ) (s : Sought) → inGoodTable (matchAs table s) ≡ foundAs table s
+handed table absent = refl
+handed table (present e) = refl
+
 -- where the table is checked
-module _ (c : tie.After-index-table) where
+module _ (c : tie.After-key-table) where
   abbrev start : tie.Start
-  start = c .before .before .before .before
+  start = c .before .before .before
 
   -- what was checked decides
   in-table :
-      {k : Checked} → c .index-table .result ≡ k →
+      {k : Checked} → c .key-table .result .checked ≡ k →
       foundIn (start .args .table .now) (start .args .name .now) k ≡ lookedUp (start .args .table .now) (start .args .name .now)
   unfolding lookedUp
-  in-table e = ap (foundIn _ _) (sym e ∙ c .index-table .ensures .0)
+  in-table e = ap (foundIn _ _) (sym e ∙ c .key-table .ensures .checked)
 
-index-table-requires : tie.Need-index-table-requires
-index-table-requires c κs = search needs
+key-table-requires : tie.Need-key-table-requires
+key-table-requires c κs = search needs
 
-enum-known-count : tie.Need-enum-known-count
-enum-known-count c = search needs
+enum-known-checked : tie.Need-enum-known-checked
+enum-known-checked c = search needs
 
 sub-find : tie.Need-sub-find
 sub-find c = search needs
@@ -33,36 +42,42 @@ part-find-start c = search needs
 
 part-find-end : tie.Need-part-find-end
 part-find-end c =
-    let t = c .before .before .before .before in
-    lines-inside _ (t .index-table .ensures .0) (c .before .before .count .given .1) _ (t .index-table .ensures .1) refl
+    let k = c .before .before in
+    lines-inside (k .before .before .before .key-table .ensures) (k .checked .given .1)
 
 find-requires : tie.Need-find-requires
 find-requires c κs = search needs
 
-enum-known-number : tie.Need-enum-known-number
-enum-known-number c = search needs
+as-found-requires : tie.Need-as-found-requires
+as-found-requires c κs = search needs
+
+enum-known-checked-2 : tie.Need-enum-known-checked-2
+enum-known-checked-2 c = search needs
 
 returns : tie.Need-returns
 returns c =
-    let k = c .before .before .before .before in
-    let t = k .before .before in
-    let good = k .count .given .1 in
-    let part = all-lines _ (t .index-table .ensures .0) good _ (t .index-table .ensures .1) in
-    c .find .ensures ∙ ap (foundAs _) (indexed _ _ part) ∙ in-table t good
+    let f = c .before in
+    let k = f .before .before .before .before in
+    let t = k .before .before .before in
+    let a = start t .args in
+    let good = k .checked .given .1 in
+    c .as-found .ensures ∙ ap inGoodTable (f .find .ensures ∙ ap (matchAs _) (sought-by-keys _ _ (all-lines (t .key-table .ensures) good)))
+    ∙ handed (a .table .now) (soughtIn (a .table .now) (a .name .now)) ∙ in-table t good
 
 returns-2 : tie.Need-returns-2
-returns-2 c = in-table (c .before .before .before) (c .before .number .given .1)
+returns-2 c = in-table (c .before .before .before .before) (c .before .checked2 .given .1)
 
 pub look-up-spec : {M : Type 1} → statement M
 look-up-spec =
     tie.close
     (tie.spec
-    index-table-requires
-    enum-known-count
+    key-table-requires
+    enum-known-checked
     sub-find
     part-find-start
     part-find-end
     find-requires
-    enum-known-number
+    as-found-requires
+    enum-known-checked-2
     returns
     returns-2)

@@ -12,8 +12,8 @@ use borrow.Author.Tests.{le-leb, lt-leb}
 use lib.ListN.{length, length-set}
 use Rattle.paper.specs.Refusals.{bad-table}
 use Rattle.variables.specs.Records.{nextPlace}
-use Rattle.variables.specs.Tables.{sound, refused, scanned, most, before}
-use Rattle.variables.specs.Indexes.{linesOf, laidOver, reach}
+use Rattle.variables.specs.Tables.{sound, badTable, scanned, most, before}
+use Rattle.variables.specs.inner.Keys.{linesOf, laidOver, reach}
 use Rattle.variables.specs.declared.Checked.{Checked}
 use Rattle.variables.specs.declared.Checked.the-variants.{Good}
 use Rattle.variables.proofs.Good.{next-inside}
@@ -22,12 +22,12 @@ use Rattle.variables.proofs.scan.Statement.{statement}
 use Rattle.variables.proofs.scan.Tie as tie
 
 abbrev Inv-loop : tie.InvT-loop
-Inv-loop table index₀ count₀ place₀ index count place =
-    (count ≤ most) × (place ≤ length table) × (length index₀ ≡ most) × (length index ≡ most)
-    × (scanned most 0 table 0 ≡ scanned (most - count) count table place) × Passed table index₀ index count place
+Inv-loop table keys₀ count₀ place₀ keys count place =
+    (count ≤ most) × (place ≤ length table) × (length keys₀ ≡ most) × (length keys ≡ most)
+    × (scanned most 0 table 0 ≡ scanned (most - count) count table place) × Passed table keys₀ keys count place
 
 abbrev μ-loop : tie.MeasureT-loop
-μ-loop table index₀ count₀ place₀ index count place = length table - place
+μ-loop table keys₀ count₀ place₀ keys count place = length table - place
 
 module _ (table : List ℕ) (count place : ℕ) where
   abbrev rest : Checked
@@ -41,7 +41,7 @@ module _ (table : List ℕ) (count place : ℕ) where
     go (suc left) = rw (le-leb (length table) place h)
 
   module _ (h : place < length table) where
-    full : count ≡ most → refused bad-table place ≡ rest
+    full : count ≡ most → badTable bad-table place ≡ rest
     unfolding scanned
     full e =
         let l : most - count ≡ 0 = omega arith in
@@ -51,7 +51,7 @@ module _ (table : List ℕ) (count place : ℕ) where
       left : most - count ≡ suc (most - (count + 1))
       left = omega arith
 
-      bad : sound table place ≡ false → refused bad-table place ≡ rest
+      bad : sound table place ≡ false → badTable bad-table place ≡ rest
       unfolding scanned
       bad e = rw (left, lt-leb (length table) place h, e)
 
@@ -60,15 +60,15 @@ module _ (table : List ℕ) (count place : ℕ) where
       more e q = rw (left, lt-leb (length table) place h, e, q, add-one)
 
 -- a refusal's place is how far the check came
-laid-to : (table index : List ℕ) (place : ℕ) {r : Checked} → r ≡ refused bad-table place →
-    laidOver (linesOf (before table place)) index ≡ laidOver (linesOf (before table (reach table r))) index
-laid-to table index place e = ap (λ r. laidOver (linesOf (before table (reach table r))) index) (sym e)
+laid-to : (table keys : List ℕ) (place : ℕ) {r : Checked} → r ≡ badTable bad-table place →
+    laidOver (linesOf (before table place)) keys ≡ laidOver (linesOf (before table (reach table r))) keys
+laid-to table keys place e = ap (λ r. laidOver (linesOf (before table (reach table r))) keys) (sym e)
 
 loop-holds : tie.Need-loop-holds Inv-loop μ-loop
 loop-holds c = (omega arith, omega arith, omega arith, omega arith, refl, at-first _ _)
 
-refused-requires : tie.Need-refused-requires Inv-loop μ-loop
-refused-requires c κs = search needs
+bad-table-requires : tie.Need-bad-table-requires Inv-loop μ-loop
+bad-table-requires c κs = search needs
 
 same-length : tie.Need-same-length Inv-loop μ-loop
 same-length c = omega arith
@@ -78,8 +78,8 @@ returns c =
     let t = c .before .before in
     let i = t .before .loop .inv in
     let all : t .before .loop .count ≡ most = omega arith in (
-      c .refused .ensures ∙ full _ _ _ (t .loop-test .taken) all ∙ sym (i .4),
-      i .5 .laid ∙ laid-to _ _ _ (c .refused .ensures),
+      c .bad-table .ensures ∙ full _ _ _ (t .loop-test .taken) all ∙ sym (i .4),
+      i .5 .laid ∙ laid-to _ _ _ (c .bad-table .ensures),
     )
 
 sub-is-sound : tie.Need-sub-is-sound Inv-loop μ-loop
@@ -97,11 +97,11 @@ is-sound-requires c κs = (omega arith, passed-part _ _ (c .before .before .befo
 line-at-requires : tie.Need-line-at-requires Inv-loop μ-loop
 line-at-requires c κs = omega arith
 
-mul-index : tie.Need-mul-index Inv-loop μ-loop
-mul-index c = omega arith
+mul-keys : tie.Need-mul-keys Inv-loop μ-loop
+mul-keys c = omega arith
 
-slice-write-index : tie.Need-slice-write-index Inv-loop μ-loop
-slice-write-index c = omega arith
+slice-write-keys : tie.Need-slice-write-keys Inv-loop μ-loop
+slice-write-keys c = omega arith
 
 next-place-requires : tie.Need-next-place-requires Inv-loop μ-loop
 next-place-requires c κs = omega arith
@@ -123,13 +123,13 @@ loop-again c =
       omega arith,
       omega (arith, next-inside _ _ sound-here),
       i .2,
-      length-set (t .before .loop .index) (t .before .loop .count) _ ∙ i .3,
+      length-set (t .before .loop .keys) (t .before .loop .count) _ ∙ i .3,
       i .4 ∙ on,
       passed-more _ _ (i .5) few (i .2) (c .before .line-at .ensures) (c .next-place .ensures),
     )
 
-refused-requires-2 : tie.Need-refused-requires-2 Inv-loop μ-loop
-refused-requires-2 c κs = search needs
+bad-table-requires-2 : tie.Need-bad-table-requires-2 Inv-loop μ-loop
+bad-table-requires-2 c κs = search needs
 
 same-length-2 : tie.Need-same-length-2 Inv-loop μ-loop
 same-length-2 c = omega arith
@@ -139,10 +139,10 @@ returns-2 c =
     let s = c .before .before in
     let t = s .before .before .before .before in
     let i = t .before .loop .inv in (
-      c .refused2 .ensures
+      c .bad-table2 .ensures
           ∙ bad _ _ _ (t .loop-test .taken) (i .0) (s .before .before .before .if1 .left) (sym (s .is-sound .ensures) ∙ c .before .if2 .left)
           ∙ sym (i .4),
-      i .5 .laid ∙ laid-to _ _ _ (c .refused2 .ensures),
+      i .5 .laid ∙ laid-to _ _ _ (c .bad-table2 .ensures),
     )
 
 same-length-3 : tie.Need-same-length-3 Inv-loop μ-loop
@@ -153,7 +153,7 @@ returns-3 c =
     let i = c .before .loop .inv in
     let a = c .before .before .before .before .args in
     let all : c .before .loop .place ≡ length (a .table .now) = omega arith in
-    (at-end _ _ _ (c .loop-test .left) ∙ sym (i .4), i .5 .laid ∙ ap (λ p. laidOver (linesOf (before (a .table .now) p)) (a .index .now)) all)
+    (at-end _ _ _ (c .loop-test .left) ∙ sym (i .4), i .5 .laid ∙ ap (λ p. laidOver (linesOf (before (a .table .now) p)) (a .keys .now)) all)
 
 pub scan-spec : {M : Type 1} → statement M
 scan-spec =
@@ -162,7 +162,7 @@ scan-spec =
     Inv-loop
     μ-loop
     loop-holds
-    refused-requires
+    bad-table-requires
     same-length
     returns
     sub-is-sound
@@ -170,13 +170,13 @@ scan-spec =
     part-is-sound-end
     is-sound-requires
     line-at-requires
-    mul-index
-    slice-write-index
+    mul-keys
+    slice-write-keys
     next-place-requires
     add-count
     loop-less
     loop-again
-    refused-requires-2
+    bad-table-requires-2
     same-length-2
     returns-2
     same-length-3

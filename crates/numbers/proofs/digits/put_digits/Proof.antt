@@ -12,8 +12,8 @@ use lib.Seq.{sets, length-take-le}
 use borrow.Author.Needs.{needs}
 use Rattle.numbers.specs.Digits.{glyph, gap, digits}
 use Rattle.numbers.specs.Strings.{radix}
-use Rattle.numbers.specs.Steps.{spreadOf, groupOf, gapBefore}
-use Rattle.numbers.proofs.Laws.{spread-zero, spread-suc, spread-mono, digits-length, gap-by-group, group-next}
+use Rattle.numbers.specs.inner.Steps.{spreadOf, gapBefore}
+use Rattle.numbers.proofs.Laws.{groupOf, spread-zero, spread-suc, spread-mono, digits-length, gap-by-group, group-next}
 use Rattle.numbers.proofs.Buffer.{prepend}
 use Rattle.numbers.proofs.digits.put_digits.Statement.{statement}
 use Rattle.numbers.proofs.digits.put_digits.Tie as tie

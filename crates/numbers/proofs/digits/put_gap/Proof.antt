@@ -9,7 +9,7 @@ use lib.ListN.{length, set}
 use lib.Seq.{sets}
 use borrow.Author.Needs.{needs}
 use borrow.Author.Tests.{not-true, not-false}
-use Rattle.numbers.specs.Steps.{gapBefore}
+use Rattle.numbers.specs.inner.Steps.{gapBefore}
 use Rattle.numbers.proofs.digits.put_gap.Statement.{statement}
 use Rattle.numbers.proofs.digits.put_gap.Tie as tie
 

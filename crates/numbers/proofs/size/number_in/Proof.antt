@@ -8,7 +8,7 @@ use lib.Pow.{pow-pos}
 use borrow.Author.Tests.{leb-true}
 use borrow.Author.Needs.{needs}
 use Rattle.numbers.specs.Strings.{bits}
-use Rattle.numbers.specs.Steps.{numberIn}
+use Rattle.numbers.specs.inner.Steps.{numberIn}
 use Rattle.numbers.specs.declared.forms.Width.{Width}
 use Rattle.numbers.specs.declared.size.Number.{Number}
 use Rattle.numbers.proofs.Bounds.{bits-range}

@@ -7,7 +7,7 @@ use native.Mathlib.Omega.{arith}
 use borrow.Author.Needs.{needs}
 use Rattle.paper.specs.Bytes.{among}
 use Rattle.reader.specs.Reading.{digit}
-use Rattle.reader.specs.Steps.{DigitIn}
+use Rattle.reader.specs.inner.Steps.{DigitIn}
 use Rattle.reader.proofs.DigitBytes.{among-true, decimal, above-decimal}
 use Rattle.reader.proofs.digits.digit_in.Statement.{statement}
 use Rattle.reader.proofs.digits.digit_in.Tie as tie

@@ -8,7 +8,7 @@ use native.Mathlib.Omega.{arith}
 use borrow.Author.Needs.{needs}
 use lib.ListN.{length, getD, drop}
 use Rattle.reader.specs.Reading.{digit, run, worth}
-use Rattle.reader.specs.Steps.{cut, DigitIn}
+use Rattle.reader.specs.inner.Steps.{cut, DigitIn}
 use Rattle.reader.proofs.Laws.{run-more, run-none, run-end, Passed, one-passed, all-passed, cut-settled}
 use Rattle.reader.proofs.digits.run_from.Statement.{statement}
 use Rattle.reader.proofs.digits.run_from.Tie as tie

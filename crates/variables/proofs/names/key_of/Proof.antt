@@ -5,8 +5,8 @@ use Prim.Native.Nat.{_+_, _*_, _-_, _%_, _<_}
 use native.Mathlib.Omega.{arith}
 use borrow.Author.Needs.{needs}
 use lib.ListN.{length, drop}
-use Rattle.variables.specs.Indexes.{keyFrom}
-use Rattle.variables.proofs.Keys.{key-more, key-end}
+use Rattle.variables.specs.inner.Keys.{keyFrom}
+use Rattle.variables.proofs.KeyLaws.{key-more, key-end}
 use Rattle.variables.proofs.names.key_of.Statement.{statement}
 use Rattle.variables.proofs.names.key_of.Tie as tie
 

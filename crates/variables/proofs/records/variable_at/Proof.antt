@@ -10,8 +10,11 @@ add-byte c = search needs
 byte-requires : tie.Need-byte-requires
 byte-requires c κs = search needs
 
-add-t6 : tie.Need-add-t6
-add-t6 c = search needs
+kind-of-requires : tie.Need-kind-of-requires
+kind-of-requires c κs = search needs
+
+add-t5 : tie.Need-add-t5
+add-t5 c = search needs
 
 add-length-at : tie.Need-add-length-at
 add-length-at c = search needs
@@ -30,7 +33,7 @@ length-at-requires-2 c κs = search needs
 
 returns : tie.Need-returns
 unfolding entryAt
-returns c = rw (c .length-at2 .ensures .0, c .before .length-at .ensures .0, c .before .before .byte .ensures)
+returns c = rw (c .length-at2 .ensures .0, c .before .length-at .ensures .0, c .before .before .kind-of .ensures, c .before .before .before .byte .ensures)
 
 pub variable-at-spec : {M : Type 1} → statement M
 variable-at-spec =
@@ -38,7 +41,8 @@ variable-at-spec =
     (tie.spec
     add-byte
     byte-requires
-    add-t6
+    kind-of-requires
+    add-t5
     add-length-at
     length-at-requires
     add-t9

@@ -1,0 +1,60 @@
+-- `signed_decimal` meets its contract: its string is that of the decimal form, which never has more than eleven characters.
+use mathlib.Core.Path.{_≡_, ap, ap₂, sym, _∙_}
+use mathlib.Core.Bool.{true, false}
+use mathlib.Core.List.{_++_}
+use native.Mathlib.Omega.{arith}
+use lib.ListN.{length, drop}
+use borrow.Author.Needs.{needs}
+use Rattle.numbers.specs.Calls.{decimal, decimalOf}
+use Rattle.numbers.specs.inner.Steps.{stringOf}
+use Rattle.numbers.specs.declared.forms.Width.the-variants.{Word}
+use Rattle.numbers.proofs.Laws.{string-length}
+use Rattle.numbers.proofs.Bounds.{decimal-short}
+use Rattle.numbers.proofs.Parts.{string-of}
+use Rattle.numbers.proofs.signed_decimal.Statement.{statement}
+use Rattle.numbers.proofs.signed_decimal.Tie as tie
+
+number-in-requires : tie.Need-number-in-requires
+number-in-requires c κs = search needs
+
+count-decimal-requires : tie.Need-count-decimal-requires
+count-decimal-requires c κs = search needs
+
+characters-requires : tie.Need-characters-requires
+characters-requires c κs = search needs
+
+-- where the size is known: it is the decimal's
+module _ (c : tie.After-characters) where
+  laid : stringOf (c .before .before .number-in .result) 10 (c .before .count-decimal .result) false ≡ decimalOf (c .before .before .before .args .value)
+  laid =
+      string-of (decimal true false false Word) (c .before .before .before .args .value) _ _ (c .before .before .number-in .ensures)
+      (c .before .count-decimal .ensures .0)
+
+  counted : c .characters .result ≡ length (decimalOf (c .before .before .before .args .value))
+  counted =
+      c .characters .ensures .0
+      ∙ sym (string-length (c .before .before .number-in .result) 10 (c .before .count-decimal .result) false)
+      ∙ ap length laid
+
+lay-number-requires : tie.Need-lay-number-requires
+lay-number-requires c κs =
+    let sized = c .before in
+    (sized .characters .ensures .0, omega (arith, counted sized, decimal-short true false Word (sized .before .before .before .args .value)))
+
+returns : tie.Need-returns
+returns c =
+    let sized = c .before .before in
+    let a = sized .before .before .before .args in (
+      (counted sized, omega (arith, counted sized, decimal-short true false Word (a .value))),
+      c .lay-number .ensures ∙ ap₂ (λ s n. s ++ drop n (a .out .now)) (laid sized) (counted sized),
+    )
+
+pub signed-decimal-spec : {M : Type 1} → statement M
+signed-decimal-spec =
+    tie.close
+    (tie.spec
+    number-in-requires
+    count-decimal-requires
+    characters-requires
+    lay-number-requires
+    returns)

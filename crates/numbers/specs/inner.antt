@@ -1,0 +1,2 @@
+-- What only inner functions' contracts cite.
+pub mod Steps

@@ -1,0 +1,102 @@
+-- `find` meets its contract. The loop's invariant: which record the name means hangs on the lines from there on.
+-- The measure is what is left of the lines.
+use mathlib.Core.Bool.{_&&_}
+use mathlib.Core.Path.{_≡_, refl, ap, sym, _∙_}
+use Prim.Native.Nat.{ℕ, _-_, _/_, _%_}
+use native.Mathlib.Omega.{arith}
+use borrow.Author.Needs.{needs}
+use lib.Dec.{eqb}
+use lib.ListN.{length, getD, drop}
+use Rattle.variables.specs.Records.{nameAt, sameName, entryAt}
+use Rattle.variables.specs.Tables.{variableAt}
+use Rattle.variables.specs.inner.Keys.{names, soughtBy, matchAs}
+use Rattle.variables.specs.declared.Match.the-variants.{Record}
+use Rattle.variables.proofs.Lines.{unmet, met, not-met}
+use Rattle.variables.proofs.keys.find.Statement.{statement}
+use Rattle.variables.proofs.keys.find.Tie as tie
+
+abbrev Inv-loop : tie.InvT-loop
+Inv-loop table keys name key at₀ at = soughtBy table keys name ≡ soughtBy table (drop at keys) name
+
+abbrev μ-loop : tie.MeasureT-loop
+μ-loop table keys name key at₀ at = length keys - at
+
+-- where a line's record was asked for the name
+module _ (c : tie.After-is-named Inv-loop μ-loop) where
+  abbrev head : tie.At-loop Inv-loop μ-loop
+  head = c .before .before .before
+
+  abbrev start : tie.Start Inv-loop μ-loop
+  start = head .before .before .before .before .before
+
+  abbrev line : ℕ
+  line = getD (start .args .keys .now) (head .loop .at) 0
+
+  told : names (start .args .table .now) line (start .args .name .now) ≡ c .is-named .result
+  told =
+      ap (λ k. eqb (line % 65536) k && sameName (nameAt (start .args .table .now) (line / 65536)) (start .args .name .now)) (sym (head .before .key-of .ensures .0))
+      ∙ sym (c .is-named .ensures)
+
+key-of-requires : tie.Need-key-of-requires Inv-loop μ-loop
+key-of-requires c κs = search needs
+
+loop-holds : tie.Need-loop-holds Inv-loop μ-loop
+loop-holds c = refl
+
+mul-line : tie.Need-mul-line Inv-loop μ-loop
+mul-line c = omega arith
+
+shared-slice-read-line : tie.Need-shared-slice-read-line Inv-loop μ-loop
+shared-slice-read-line c = omega arith
+
+is-named-requires : tie.Need-is-named-requires Inv-loop μ-loop
+is-named-requires c κs = search needs
+
+place-in-requires : tie.Need-place-in-requires Inv-loop μ-loop
+place-in-requires c κs = search needs
+
+variable-at-requires : tie.Need-variable-at-requires Inv-loop μ-loop
+variable-at-requires c κs = omega arith
+
+returns : tie.Need-returns Inv-loop μ-loop
+returns c =
+    let p = c .before in
+    let s = p .before .before in
+    let a = start s .args in
+    let found-it = met (a .table .now) (a .keys .now) (a .name .now) _ (s .before .before .loop-test .taken) (told s ∙ p .before .if1 .taken) in
+    ap Record (c .variable-at .ensures ∙ ap (λ p. variableAt (a .table .now) (entryAt (a .table .now) p)) (p .place-in .ensures .0))
+    ∙ ap (matchAs _) (sym (head s .loop .inv ∙ found-it))
+
+add-at : tie.Need-add-at Inv-loop μ-loop
+add-at c = omega arith
+
+loop-less : tie.Need-loop-less Inv-loop μ-loop
+loop-less c = omega arith
+
+loop-again : tie.Need-loop-again Inv-loop μ-loop
+loop-again c =
+    let s = c .before in
+    let a = start s .args in
+    head s .loop .inv ∙ not-met (a .table .now) (a .keys .now) (a .name .now) _ (s .before .before .loop-test .taken) (told s ∙ c .if1 .left)
+
+returns-2 : tie.Need-returns-2 Inv-loop μ-loop
+returns-2 c = ap (matchAs _) (sym (c .before .loop .inv ∙ unmet _ _ _ _ (c .loop-test .left)))
+
+pub find-spec : {M : Type 1} → statement M
+find-spec =
+    tie.close
+    (tie.spec
+    Inv-loop
+    μ-loop
+    key-of-requires
+    loop-holds
+    mul-line
+    shared-slice-read-line
+    is-named-requires
+    place-in-requires
+    variable-at-requires
+    returns
+    add-at
+    loop-less
+    loop-again
+    returns-2)
