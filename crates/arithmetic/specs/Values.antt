@@ -24,31 +24,31 @@ wrapped (negsuc n) = 4294967295 - n % 4294967296
 
 -- sums, differences and products are taken modulo 2 to the 32
 unfoldable pub sum : ℕ → ℕ → ℕ
-sum l r = (l + r) % 4294967296
+sum lhs rhs = (lhs + rhs) % 4294967296
 
 unfoldable pub difference : ℕ → ℕ → ℕ
-difference l r = (l + (4294967296 - r)) % 4294967296
+difference lhs rhs = (lhs + (4294967296 - rhs)) % 4294967296
 
 unfoldable pub product : ℕ → ℕ → ℕ
-product l r = l * r % 4294967296
+product lhs rhs = lhs * rhs % 4294967296
 
 -- division drops the fraction toward zero; the lowest number over -1 gives itself
 unfoldable pub quotient : ℕ → ℕ → ℕ
-quotient l r = wrapped (quotZ (signed l) (signed r))
+quotient lhs rhs = wrapped (quotZ (signed lhs) (signed rhs))
 
 -- MOD takes the sign of the left side
 unfoldable pub remainder : ℕ → ℕ → ℕ
-remainder l r = wrapped (remZ (signed l) (signed r))
+remainder lhs rhs = wrapped (remZ (signed lhs) (signed rhs))
 
 -- comparisons are signed and give -1 or 0
 abbrev pub truth : Bool → ℕ
 truth holds = cond holds 4294967295 0
 
 unfoldable pub less : ℕ → ℕ → Bool
-less l r = ltZ (signed l) (signed r)
+less lhs rhs = ltZ (signed lhs) (signed rhs)
 
 unfoldable pub atMost : ℕ → ℕ → Bool
-atMost l r = leZ (signed l) (signed r)
+atMost lhs rhs = leZ (signed lhs) (signed rhs)
 
 -- shift amounts are unsigned; 32 or more gives 0, for >> of a negative -1
 unfoldable pub shiftedLeft : ℕ → ℕ → ℕ
@@ -61,28 +61,28 @@ unfoldable pub shiftedRightUnsigned : ℕ → ℕ → ℕ
 shiftedRightUnsigned v by = cond (ltb by 32) (v / 2 ^ by) 0
 
 abbrev pub related : Related → ℕ → ℕ → ℕ
-related Equal l r = truth (eqb l r)
-related Unequal l r = truth (not (eqb l r))
-related Less l r = truth (less l r)
-related Greater l r = truth (less r l)
-related AtMost l r = truth (atMost l r)
-related AtLeast l r = truth (atMost r l)
-related ShiftLeft l r = shiftedLeft l r
-related ShiftRight l r = shiftedRight l r
-related ShiftRightUnsigned l r = shiftedRightUnsigned l r
+related Equal lhs rhs = truth (eqb lhs rhs)
+related Unequal lhs rhs = truth (not (eqb lhs rhs))
+related Less lhs rhs = truth (less lhs rhs)
+related Greater lhs rhs = truth (less rhs lhs)
+related AtMost lhs rhs = truth (atMost lhs rhs)
+related AtLeast lhs rhs = truth (atMost rhs lhs)
+related ShiftLeft lhs rhs = shiftedLeft lhs rhs
+related ShiftRight lhs rhs = shiftedRight lhs rhs
+related ShiftRightUnsigned lhs rhs = shiftedRightUnsigned lhs rhs
 
 -- NOT, AND, OR and EOR work bit by bit. NOT stands between no operands
 abbrev pub binaryValue : Operator → ℕ → ℕ → ℕ
-binaryValue (Product Times) l r = product l r
-binaryValue (Product Over) l r = quotient l r
-binaryValue (Product Mod) l r = remainder l r
-binaryValue (Sum Plus) l r = sum l r
-binaryValue (Sum Minus) l r = difference l r
-binaryValue (Relation relation) l r = related relation l r
-binaryValue And l r = bitAnd l r
-binaryValue (Either Or) l r = bitOr l r
-binaryValue (Either Eor) l r = bitXor l r
-binaryValue Not l r = 0
+binaryValue (Product Times) lhs rhs = product lhs rhs
+binaryValue (Product Over) lhs rhs = quotient lhs rhs
+binaryValue (Product Mod) lhs rhs = remainder lhs rhs
+binaryValue (Sum Plus) lhs rhs = sum lhs rhs
+binaryValue (Sum Minus) lhs rhs = difference lhs rhs
+binaryValue (Relation relation) lhs rhs = related relation lhs rhs
+binaryValue And lhs rhs = bitAnd lhs rhs
+binaryValue (Either Or) lhs rhs = bitOr lhs rhs
+binaryValue (Either Eor) lhs rhs = bitXor lhs rhs
+binaryValue Not lhs rhs = 0
 
 -- unary minus is 0 less the value; no other operator stands before one operand
 abbrev pub unaryValue : Operator → ℕ → ℕ

@@ -15,23 +15,23 @@ const HALF: u32 = 2147483648;
 // All bits: the pattern of -1.
 const ONES: u32 = 4294967295;
 
-pub fn sum(l: u32, r: u32) -> u32
-    ensures { λ r′. ⌜ r′ ≡ sum l r ⌝ }
+fn sum(lhs: u32, rhs: u32) -> u32
+    ensures { λ s. ⌜ s ≡ sum lhs rhs ⌝ }
 {
-    std::num::wrapping_add_u32(l, r)
+    std::num::wrapping_add_u32(lhs, rhs)
 }
 
-pub fn difference(l: u32, r: u32) -> u32
-    ensures { λ d. ⌜ d ≡ difference l r ⌝ }
+fn difference(lhs: u32, rhs: u32) -> u32
+    ensures { λ d. ⌜ d ≡ difference lhs rhs ⌝ }
 {
-    std::num::wrapping_sub_u32(l, r)
+    std::num::wrapping_sub_u32(lhs, rhs)
 }
 
 // The product modulo 2 to the 32, taken where it cannot overflow.
-pub fn product(l: u32, r: u32) -> u32
-    ensures { λ p. ⌜ p ≡ product l r ⌝ }
+fn product(lhs: u32, rhs: u32) -> u32
+    ensures { λ p. ⌜ p ≡ product lhs rhs ⌝ }
 {
-    ((l as u64) * (r as u64) % 4294967296) as u32
+    ((lhs as u64) * (rhs as u64) % 4294967296) as u32
 }
 
 fn is_negative(v: u32) -> bool
@@ -51,28 +51,28 @@ fn size(v: u32) -> u32
 }
 
 // Toward zero. Nothing is asked of a right side of zero: it is refused before.
-pub fn quotient(l: u32, r: u32) -> u32
-    ensures { λ q. ⌜ q ≡ quotient l r ⌝ }
+fn quotient(lhs: u32, rhs: u32) -> u32
+    ensures { λ q. ⌜ q ≡ quotient lhs rhs ⌝ }
 {
-    if r == 0 {
+    if rhs == 0 {
         return 0;
     }
-    let q = size(l) / size(r);
-    if is_negative(l) == is_negative(r) {
+    let q = size(lhs) / size(rhs);
+    if is_negative(lhs) == is_negative(rhs) {
         return q;
     }
     difference(0, q)
 }
 
 // With the sign of the left side.
-pub fn remainder(l: u32, r: u32) -> u32
-    ensures { λ m. ⌜ m ≡ remainder l r ⌝ }
+fn remainder(lhs: u32, rhs: u32) -> u32
+    ensures { λ m. ⌜ m ≡ remainder lhs rhs ⌝ }
 {
-    if r == 0 {
-        return l;
+    if rhs == 0 {
+        return lhs;
     }
-    let m = size(l) % size(r);
-    if is_negative(l) {
+    let m = size(lhs) % size(rhs);
+    if is_negative(lhs) {
         return difference(0, m);
     }
     m
@@ -91,16 +91,16 @@ fn raised(v: u32) -> u32
     sum(v, HALF)
 }
 
-fn less(l: u32, r: u32) -> bool
-    ensures { λ b. ⌜ b ≡ less l r ⌝ }
+fn less(lhs: u32, rhs: u32) -> bool
+    ensures { λ b. ⌜ b ≡ less lhs rhs ⌝ }
 {
-    raised(l) < raised(r)
+    raised(lhs) < raised(rhs)
 }
 
-fn at_most(l: u32, r: u32) -> bool
-    ensures { λ b. ⌜ b ≡ atMost l r ⌝ }
+fn at_most(lhs: u32, rhs: u32) -> bool
+    ensures { λ b. ⌜ b ≡ atMost lhs rhs ⌝ }
 {
-    !less(r, l)
+    !less(rhs, lhs)
 }
 
 fn shifted_left(v: u32, by: u32) -> u32
@@ -142,42 +142,42 @@ pub fn unary(operator: Operator, v: u32) -> u32
     }
 }
 
-fn related(relation: Relation, l: u32, r: u32) -> u32
-    ensures { λ v. ⌜ v ≡ related relation l r ⌝ }
+fn related(relation: Relation, lhs: u32, rhs: u32) -> u32
+    ensures { λ v. ⌜ v ≡ related relation lhs rhs ⌝ }
 {
     match relation {
-        Relation::Equal => truth(l == r),
-        Relation::Unequal => truth(l != r),
-        Relation::Less => truth(less(l, r)),
-        Relation::Greater => truth(less(r, l)),
-        Relation::AtMost => truth(at_most(l, r)),
-        Relation::AtLeast => truth(at_most(r, l)),
-        Relation::ShiftLeft => shifted_left(l, r),
-        Relation::ShiftRight => shifted_right(l, r),
-        Relation::ShiftRightUnsigned => shifted_right_unsigned(l, r),
+        Relation::Equal => truth(lhs == rhs),
+        Relation::Unequal => truth(lhs != rhs),
+        Relation::Less => truth(less(lhs, rhs)),
+        Relation::Greater => truth(less(rhs, lhs)),
+        Relation::AtMost => truth(at_most(lhs, rhs)),
+        Relation::AtLeast => truth(at_most(rhs, lhs)),
+        Relation::ShiftLeft => shifted_left(lhs, rhs),
+        Relation::ShiftRight => shifted_right(lhs, rhs),
+        Relation::ShiftRightUnsigned => shifted_right_unsigned(lhs, rhs),
     }
 }
 
 // An operator between two operands.
-pub fn binary(operator: Operator, l: u32, r: u32) -> u32
-    ensures { λ v. ⌜ v ≡ binaryValue operator l r ⌝ }
+pub fn binary(operator: Operator, lhs: u32, rhs: u32) -> u32
+    ensures { λ v. ⌜ v ≡ binaryValue operator lhs rhs ⌝ }
 {
     match operator {
         Operator::Not => 0,
         Operator::Product(sign) => match sign {
-            Product::Times => product(l, r),
-            Product::Over => quotient(l, r),
-            Product::Mod => remainder(l, r),
+            Product::Times => product(lhs, rhs),
+            Product::Over => quotient(lhs, rhs),
+            Product::Mod => remainder(lhs, rhs),
         },
         Operator::Sum(sign) => match sign {
-            Sum::Plus => sum(l, r),
-            Sum::Minus => difference(l, r),
+            Sum::Plus => sum(lhs, rhs),
+            Sum::Minus => difference(lhs, rhs),
         },
-        Operator::Relation(relation) => related(relation, l, r),
-        Operator::And => l & r,
+        Operator::Relation(relation) => related(relation, lhs, rhs),
+        Operator::And => lhs & rhs,
         Operator::Either(sign) => match sign {
-            Either::Or => l | r,
-            Either::Eor => l ^ r,
+            Either::Or => lhs | rhs,
+            Either::Eor => lhs ^ rhs,
         },
     }
 }

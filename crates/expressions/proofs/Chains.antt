@@ -6,31 +6,30 @@ use Prim.Native.Nat.{ℕ, zero, suc, _+_, _-_, _<_, _≤_}
 use native.Mathlib.Omega.{arith}
 use lib.Dec.{eqb}
 use lib.ListN.{length}
-use Rattle.paper.specs.Traces.{Run, finished, stopped, run, ended}
+use Rattle.paper.specs.Traces.{Run, finished, refused, run, ended}
 use Rattle.paper.proofs.Choice.{either}
 use Rattle.variables.specs.Names.{Meaning}
 use Rattle.arithmetic.specs.Operators.{divides}
 use Rattle.expressions.specs.Tokens.{tokenAt}
-use Rattle.expressions.specs.Trees.{Tree, Parsed, tree, wrong, bindingBy, binding, joined, extended, following, levelAt, operandAt}
-use Rattle.expressions.specs.Evaluations.{valueOf, steps}
-use Rattle.expressions.specs.Steps.{partBy, partOf, accountOf, appliedPart, joinedPart, behindPart}
+use Rattle.expressions.specs.Trees.{Tree, Parsed, tree, faulty, binds, none, linkBy, linkAt, joined, extended, operatorsFrom, levelAt, operandAt}
+use Rattle.expressions.specs.Evaluations.{treeValue, steps}
+use Rattle.expressions.specs.inner.Steps.{partBy, partOf, accountOf, appliedPart, joinedPart, linkBehind}
 use Rattle.arithmetic.specs.declared.operators.Operator.{Operator}
-use Rattle.expressions.specs.declared.levels.Behind.the-variants.{Binds, Other}
 use Rattle.expressions.specs.declared.parts.Account.{Account}
-use Rattle.expressions.specs.declared.parts.Account.the-variants.{Open, Shut}
+use Rattle.expressions.specs.declared.parts.Account.the-variants.{Open, Refused as RefusedBefore}
 use Rattle.expressions.specs.declared.parts.Part.{Part}
-use Rattle.expressions.specs.declared.parts.Part.the-variants.{Value, Refused, Wrong}
+use Rattle.expressions.specs.declared.parts.Part.the-variants.{Value, Refused, Faulty}
 use Rattle.expressions.proofs.Places.{past-end}
 use Rattle.expressions.proofs.Onward.{Onward, binds-onward, level-onward, operand-onward}
-use Rattle.expressions.proofs.Joins.{part-behind, part-joined}
+use Rattle.expressions.proofs.Joins.{part-link, part-joined}
 
--- what is left of a text of so many bytes behind a part
+-- what remains of a text of so many bytes behind a part
 abbrev pub remaining : ℕ → Part → ℕ
 remaining size (Value value left next) = suc size - next
 remaining size (Refused number place next) = suc size - next
-remaining size (Wrong fault place) = 0
+remaining size (Faulty fault place) = 0
 
-no-binding : (operator : Operator) (place next : ℕ) → Other ≡ Binds operator place next → ⊥
+no-binding : (operator : Operator) (place next : ℕ) → none ≡ binds operator place next → ⊥
 no-binding operator place next e = let z : _≡_ {A = ℕ} 0 1 = cc in omega arith
 
 module _ (names : List ℕ → Meaning) (text : List ℕ) (tighter levels : ℕ) where
@@ -45,97 +44,97 @@ module _ (names : List ℕ → Meaning) (text : List ℕ) (tighter levels : ℕ)
     pub more : ℕ
     pub parsed : Parsed
     pub is : part ≡ partOf names account parsed
-    pub leads : levelAt text (suc tighter) (operandAt text levels) at ≡ following text more (suc tighter) below parsed
+    pub leads : levelAt text (suc tighter) (operandAt text levels) at ≡ operatorsFrom text more (suc tighter) below parsed
     pub enough : (t : Tree) (next : ℕ) → parsed ≡ tree t next → length text < more + next
 
   pub begins : (account : Account) (at : ℕ) (part : Part) → part ≡ partOf names account (below at) → Chain account at part
   begins account at part e =
       record { more = suc (length text); parsed = below at; is = e; leads = refl; enough = λ t next _. omega arith }
 
-  following-done : (account : Account) (more : ℕ) (parsed : Parsed) → behindPart text (suc tighter) (partOf names account parsed) ≡ Other
-      → parsed ≡ following text more (suc tighter) below parsed
-  unfolding following
-  following-done account zero parsed e = refl
-  following-done account (suc more) (wrong fault place) e = refl
-  following-done account (suc more) (tree left here) e =
-      ap (λ b. extended b left here below (following text more (suc tighter) below)) (sym e ∙ part-behind names text (suc tighter) account left here)
+  operators-done : (account : Account) (more : ℕ) (parsed : Parsed) → linkBehind text (suc tighter) (partOf names account parsed) ≡ none
+      → parsed ≡ operatorsFrom text more (suc tighter) below parsed
+  unfolding operatorsFrom
+  operators-done account zero parsed e = refl
+  operators-done account (suc more) (faulty fault place) e = refl
+  operators-done account (suc more) (tree lhs here) e =
+      ap (λ b. extended b lhs here below (operatorsFrom text more (suc tighter) below)) (sym e ∙ part-link names text (suc tighter) account lhs here)
 
   -- nothing of the level behind the part: it is the whole
-  pub ends : (account : Account) (at : ℕ) (part : Part) → Chain account at part → behindPart text (suc tighter) part ≡ Other
+  pub ends : (account : Account) (at : ℕ) (part : Part) → Chain account at part → linkBehind text (suc tighter) part ≡ none
       → part ≡ partOf names account (levelAt text (suc tighter) (operandAt text levels) at)
   ends account at part c e =
       c .is
       ∙ ap (partOf names account)
-      (following-done account (c .more) (c .parsed) (sym (ap (behindPart text (suc tighter)) (c .is)) ∙ e) ∙ sym (c .leads))
+      (operators-done account (c .more) (c .parsed) (sym (ap (linkBehind text (suc tighter)) (c .is)) ∙ e) ∙ sym (c .leads))
 
   -- past the end no operator binds
-  none-past : (here place next : ℕ) (operator : Operator) → length text ≤ here → binding (suc tighter) (tokenAt text here) ≡ Binds operator place next → ⊥
+  none-past : (here place next : ℕ) (operator : Operator) → length text ≤ here → linkAt text (suc tighter) here ≡ binds operator place next → ⊥
   none-past here place next operator h e =
       no-binding operator place next
-      (sym (ap (λ t. bindingBy (suc tighter) t (tokenAt text here .at) (tokenAt text here .next)) (past-end text here h)) ∙ e)
+      (sym (ap (λ t. linkBy (suc tighter) t (tokenAt text here .place) (tokenAt text here .next)) (past-end text here h)) ∙ e)
 
   module _ (account : Account) (at : ℕ) (operator : Operator) (place next : ℕ) where
     abbrev Behind-it : Part → Type 0
-    Behind-it part = behindPart text (suc tighter) part ≡ Binds operator place next
+    Behind-it part = linkBehind text (suc tighter) part ≡ binds operator place next
 
     go-on : (more : ℕ) (parsed : Parsed) → Behind-it (partOf names account parsed)
-        → levelAt text (suc tighter) (operandAt text levels) at ≡ following text more (suc tighter) below parsed
+        → levelAt text (suc tighter) (operandAt text levels) at ≡ operatorsFrom text more (suc tighter) below parsed
         → ((t : Tree) (n : ℕ) → parsed ≡ tree t n → length text < more + n)
         → Chain account at (joinedPart operator place (partOf names account parsed) (partOf names (accountOf (partOf names account parsed)) (below next)))
-    unfolding following
-    go-on more (wrong fault p) e leads enough = absurd (no-binding operator place next e)
-    go-on zero (tree left here) e leads enough =
+    unfolding operatorsFrom
+    go-on more (faulty fault p) e leads enough = absurd (no-binding operator place next e)
+    go-on zero (tree lhs here) e leads enough =
         absurd
-        (none-past here place next operator (omega (arith, enough left here refl)) (sym (part-behind names text (suc tighter) account left here) ∙ e))
-    go-on (suc more) (tree left here) e leads enough =
-        let b = sym (part-behind names text (suc tighter) account left here) ∙ e in
+        (none-past here place next operator (omega (arith, enough lhs here refl)) (sym (part-link names text (suc tighter) account lhs here) ∙ e))
+    go-on (suc more) (tree lhs here) e leads enough =
+        let b = sym (part-link names text (suc tighter) account lhs here) ∙ e in
         record {
           more = more;
-          parsed = joined operator place left (below next);
-          is = part-joined names operator place account left here (below next);
-          leads = leads ∙ ap (λ b. extended b left here below (following text more (suc tighter) below)) b;
-          enough = λ t n j. further (below next) (below-onward next) t n j (binds-onward text (suc tighter) here place next operator b) (enough left here refl);
+          parsed = joined operator place lhs (below next);
+          is = part-joined names operator place account lhs here (below next);
+          leads = leads ∙ ap (λ b. extended b lhs here below (operatorsFrom text more (suc tighter) below)) b;
+          enough = λ t n j. further (below next) (below-onward next) t n j (binds-onward text (suc tighter) here place next operator b) (enough lhs here refl);
         }
       where
-        further : (p : Parsed) → Onward text next p → (t : Tree) (n : ℕ) → joined operator place left p ≡ tree t n
+        further : (p : Parsed) → Onward text next p → (t : Tree) (n : ℕ) → joined operator place lhs p ≡ tree t n
             → (here < next) × (next ≤ length text) → length text < suc more + here → length text < more + n
         further (tree r m) o t n j b h = let same : m ≡ n = cc in omega (arith, o .ends r m refl)
-        further (wrong fault p) o t n j b h = let z : _≡_ {A = ℕ} 0 1 = cc in absurd (omega arith)
+        further (faulty fault p) o t n j b h = let z : _≡_ {A = ℕ} 0 1 = cc in absurd (omega arith)
 
     -- an operator of the level behind the part: both with it are the part so far
-    pub goes-on : (part right new : Part) → Chain account at part → Behind-it part → right ≡ partOf names (accountOf part) (below next)
-        → new ≡ joinedPart operator place part right → Chain account at new
-    goes-on part right new c e r j =
+    pub goes-on : (part rhs new : Part) → Chain account at part → Behind-it part → rhs ≡ partOf names (accountOf part) (below next)
+        → new ≡ joinedPart operator place part rhs → Chain account at new
+    goes-on part rhs new c e r j =
         subst (Chain account at)
         (sym (j ∙ ap (joinedPart operator place part) r ∙ ap (λ p. joinedPart operator place p (partOf names (accountOf p) (below next))) (c .is)))
-        (go-on (c .more) (c .parsed) (sym (ap (behindPart text (suc tighter)) (c .is)) ∙ e) (c .leads) (c .enough))
+        (go-on (c .more) (c .parsed) (sym (ap (linkBehind text (suc tighter)) (c .is)) ∙ e) (c .leads) (c .enough))
 
-  -- what is left of the text falls
+  -- what remains of the text falls
   part-remaining : (account : Account) (here next : ℕ) (parsed : Parsed) → Onward text next parsed → here < next → next ≤ length text
       → remaining (length text) (partOf names account parsed) < suc (length text) - here
-  part-remaining account here next (wrong fault p) o h w = omega arith
-  part-remaining (Shut number p) here next (tree t n) o h w = omega (arith, o .ends t n refl)
+  part-remaining account here next (faulty fault p) o h w = omega arith
+  part-remaining (RefusedBefore number p) here next (tree t n) o h w = omega (arith, o .ends t n refl)
   part-remaining (Open left) here next (tree t n) o h w = by (run (steps names t (ended 0)) left)
     where
-      by : (r : Run) → remaining (length text) (partBy r (valueOf names t) n) < suc (length text) - here
+      by : (r : Run) → remaining (length text) (partBy r (treeValue names t) n) < suc (length text) - here
       by (finished end left′) = omega (arith, o .ends t n refl)
-      by (stopped number p) = omega (arith, o .ends t n refl)
+      by (refused number p) = omega (arith, o .ends t n refl)
 
-  joined-remaining : (size : ℕ) (operator : Operator) (place : ℕ) (left right : Part) → remaining size (joinedPart operator place left right) ≤ remaining size right
+  joined-remaining : (size : ℕ) (operator : Operator) (place : ℕ) (lhs rhs : Part) → remaining size (joinedPart operator place lhs rhs) ≤ remaining size rhs
   unfolding appliedPart
-  joined-remaining size operator place left (Wrong fault p) = omega arith
-  joined-remaining size operator place left (Refused number p next) = omega arith
-  joined-remaining size operator place (Value l spent behind) (Value r rest next) =
+  joined-remaining size operator place lhs (Faulty fault p) = omega arith
+  joined-remaining size operator place lhs (Refused number p next) = omega arith
+  joined-remaining size operator place (Value l before behind) (Value r left next) =
       either (λ p. remaining size p ≤ suc size - next) (divides operator && eqb r 0) (λ _. omega arith) (λ _. omega arith)
-  joined-remaining size operator place (Refused number p behind) (Value r rest next) = omega arith
-  joined-remaining size operator place (Wrong fault p) (Value r rest next) = omega arith
+  joined-remaining size operator place (Refused number p behind) (Value r left next) = omega arith
+  joined-remaining size operator place (Faulty fault p) (Value r left next) = omega arith
 
-  pub falls : (operator : Operator) (place next : ℕ) (account : Account) (part right new : Part) → behindPart text (suc tighter) part ≡ Binds operator place next
-      → right ≡ partOf names account (below next) → new ≡ joinedPart operator place part right → remaining (length text) new < remaining (length text) part
-  falls operator place next account (Wrong fault p) right new e r j = absurd (no-binding operator place next e)
-  falls operator place next account (Value value left here) right new e r j =
+  pub falls : (operator : Operator) (place next : ℕ) (account : Account) (part rhs new : Part) → linkBehind text (suc tighter) part ≡ binds operator place next
+      → rhs ≡ partOf names account (below next) → new ≡ joinedPart operator place part rhs → remaining (length text) new < remaining (length text) part
+  falls operator place next account (Faulty fault p) rhs new e r j = absurd (no-binding operator place next e)
+  falls operator place next account (Value value left here) rhs new e r j =
       let b = binds-onward text (suc tighter) here place next operator e in
-      omega (arith, ap (remaining (length text)) j, ap (remaining (length text)) r, joined-remaining (length text) operator place (Value value left here) right, part-remaining account here next (below next) (below-onward next) (b .0) (b .1))
-  falls operator place next account (Refused number p here) right new e r j =
+      omega (arith, ap (remaining (length text)) j, ap (remaining (length text)) r, joined-remaining (length text) operator place (Value value left here) rhs, part-remaining account here next (below next) (below-onward next) (b .0) (b .1))
+  falls operator place next account (Refused number p here) rhs new e r j =
       let b = binds-onward text (suc tighter) here place next operator e in
-      omega (arith, ap (remaining (length text)) j, ap (remaining (length text)) r, joined-remaining (length text) operator place (Refused number p here) right, part-remaining account here next (below next) (below-onward next) (b .0) (b .1))
+      omega (arith, ap (remaining (length text)) j, ap (remaining (length text)) r, joined-remaining (length text) operator place (Refused number p here) rhs, part-remaining account here next (below next) (below-onward next) (b .0) (b .1))

@@ -5,182 +5,181 @@ use mathlib.Core.Path.{_≡_, refl, sym, ap, _∙_}
 use Prim.Native.Nat.{ℕ, zero, suc}
 use lib.Dec.{eqb}
 use Rattle.paper.specs.Refusals.{zero-divisor}
-use Rattle.paper.specs.Traces.{Trace, Run, finished, stopped, run, ended as end-at, refused}
+use Rattle.paper.specs.Traces.{Trace, Run, finished, refused, run, ended as end-at, faults}
 use Rattle.paper.specs.declared.faults.Fault.the-variants.{ZeroDivisor}
 use Rattle.variables.specs.Names.{Meaning, unknown, string-of, integer-of, macro-of}
 use Rattle.arithmetic.specs.Operators.{divides}
-use Rattle.expressions.specs.Tokens.{tokenAt}
-use Rattle.expressions.specs.Trees.{Tree, constant, variable, unary, binary, Parsed, tree, wrong, binding, joined, covered, closedBy, wholeBy, closed, ended}
-use Rattle.expressions.specs.Evaluations.{named, divided, valueOf, steps, evaluation, result}
+use Rattle.expressions.specs.Tokens.{Lexeme, tokenAt}
+use Rattle.expressions.specs.Trees.{Tree, constant, variable, unary, binary, Parsed, tree, faulty, linkAt, joined, covered, closedBy, endedBy, closedTree, endedTree}
+use Rattle.expressions.specs.Evaluations.{nameSteps, divided, treeValue, steps, evaluation, result}
 use Rattle.expressions.specs.Answers.{evaluatedBy}
-use Rattle.expressions.specs.Steps.{partBy, partOf, accountOf, movedTo, coveredPart, appliedPart, joinedPart, behindPart, closedPartBy, closedPart, endedPartBy, endedPart, answerOf}
+use Rattle.expressions.specs.inner.Steps.{partBy, partOf, accountOf, movedTo, coveredPart, appliedPart, joinedPart, linkBehind, closedPartBy, closedPart, endedPartBy, endedPart, answerOf}
 use Rattle.arithmetic.specs.declared.operators.Operator.{Operator}
-use Rattle.expressions.specs.declared.tokens.Lexed.{Lexed}
 use Rattle.expressions.specs.declared.tokens.Token.{Token}
-use Rattle.expressions.specs.declared.tokens.Token.the-variants.{End, Operator as Operates, Number, BadNumber, Name, Open as Bracket, Close, Strange}
+use Rattle.expressions.specs.declared.tokens.Token.the-variants.{End, Operator as Operates, Number, FaultyNumber, Name, Open as Bracket, Close, Strange}
 use Rattle.expressions.specs.declared.parts.Account.{Account}
-use Rattle.expressions.specs.declared.parts.Account.the-variants.{Open, Shut}
+use Rattle.expressions.specs.declared.parts.Account.the-variants.{Open, Refused as RefusedBefore}
 use Rattle.expressions.specs.declared.parts.Part.the-variants.{Value, Refused}
 
 -- behind a run that finished the rest is run with the look-ups left
-abbrev onward : Run → Trace → Run
-onward (finished end left) rest = run rest left
-onward (stopped number place) rest = stopped number place
+abbrev continued : Run → Trace → Run
+continued (finished end left) rest = run rest left
+continued (refused number place) rest = refused number place
 
-onward-onward : (r : Run) (middle rest : Trace) (whole : Trace) → ((left : ℕ) → run whole left ≡ onward (run middle left) rest)
-    → onward r whole ≡ onward (onward r middle) rest
-onward-onward (finished end left) middle rest whole h = h left
-onward-onward (stopped number place) middle rest whole h = refl
+continued-on : (r : Run) (middle rest : Trace) (whole : Trace) → ((left : ℕ) → run whole left ≡ continued (run middle left) rest)
+    → continued r whole ≡ continued (continued r middle) rest
+continued-on (finished end left) middle rest whole h = h left
+continued-on (refused number place) middle rest whole h = refl
 
-named-run : (m : Meaning) (place left : ℕ) (rest : Trace) → run (named m place rest) left ≡ onward (run (named m place (end-at 0)) left) rest
-named-run unknown place left rest = refl
-named-run (string-of value) place left rest = refl
-named-run (macro-of value) place left rest = refl
-named-run (integer-of pattern) place zero rest = refl
-named-run (integer-of pattern) place (suc left) rest = refl
+name-run : (m : Meaning) (place left : ℕ) (rest : Trace) → run (nameSteps m place rest) left ≡ continued (run (nameSteps m place (end-at 0)) left) rest
+name-run unknown place left rest = refl
+name-run (string-of value) place left rest = refl
+name-run (macro-of value) place left rest = refl
+name-run (integer-of pattern) place zero rest = refl
+name-run (integer-of pattern) place (suc left) rest = refl
 
-divided-run : (operator : Operator) (place right left : ℕ) (rest : Trace)
-    → run (divided operator place right rest) left ≡ onward (run (divided operator place right (end-at 0)) left) rest
+divided-run : (operator : Operator) (place rhs left : ℕ) (rest : Trace)
+    → run (divided operator place rhs rest) left ≡ continued (run (divided operator place rhs (end-at 0)) left) rest
 unfolding divided
-divided-run operator place right left rest = either-way (divides operator && eqb right 0)
+divided-run operator place rhs left rest = either-way (divides operator && eqb rhs 0)
   where
-    either-way : (b : Bool) → run (cond b (refused ZeroDivisor place) rest) left ≡ onward (run (cond b (refused ZeroDivisor place) (end-at 0)) left) rest
+    either-way : (b : Bool) → run (cond b (faults ZeroDivisor place) rest) left ≡ continued (run (cond b (faults ZeroDivisor place) (end-at 0)) left) rest
     either-way true = refl
     either-way false = refl
 
 module _ (names : List ℕ → Meaning) where
   -- what a tree asks, spends and is refused for does not go by what comes behind it
-  pub steps-run : (t : Tree) (left : ℕ) (rest : Trace) → run (steps names t rest) left ≡ onward (run (steps names t (end-at 0)) left) rest
+  pub steps-run : (t : Tree) (left : ℕ) (rest : Trace) → run (steps names t rest) left ≡ continued (run (steps names t (end-at 0)) left) rest
   steps-run (constant pattern) left rest = refl
-  steps-run (variable word place) left rest = named-run (names word) place left rest
+  steps-run (variable word place) left rest = name-run (names word) place left rest
   steps-run (unary operator inner) left rest = steps-run inner left rest
-  steps-run (binary operator place l r) left rest =
-      let last : Trace → Trace = divided operator place (valueOf names r) in
-      steps-run l left (steps names r (last rest))
-      ∙ onward-onward (run (steps names l (end-at 0)) left) (steps names r (last (end-at 0))) rest (steps names r (last rest))
-      (λ m. steps-run r m (last rest)
-      ∙ onward-onward (run (steps names r (end-at 0)) m) (last (end-at 0)) rest (last rest) (λ n. divided-run operator place (valueOf names r) n rest)
-      ∙ ap (λ x. onward x rest) (sym (steps-run r m (last (end-at 0)))))
-      ∙ ap (λ x. onward x rest) (sym (steps-run l left (steps names r (last (end-at 0)))))
+  steps-run (binary operator place lhs rhs) left rest =
+      let last : Trace → Trace = divided operator place (treeValue names rhs) in
+      steps-run lhs left (steps names rhs (last rest))
+      ∙ continued-on (run (steps names lhs (end-at 0)) left) (steps names rhs (last (end-at 0))) rest (steps names rhs (last rest))
+      (λ m. steps-run rhs m (last rest)
+      ∙ continued-on (run (steps names rhs (end-at 0)) m) (last (end-at 0)) rest (last rest) (λ n. divided-run operator place (treeValue names rhs) n rest)
+      ∙ ap (λ x. continued x rest) (sym (steps-run rhs m (last (end-at 0)))))
+      ∙ ap (λ x. continued x rest) (sym (steps-run lhs left (steps names rhs (last (end-at 0)))))
 
   part-moved : (account : Account) (inner : Tree) (at next : ℕ) → movedTo next (partOf names account (tree inner at)) ≡ partOf names account (tree inner next)
-  part-moved (Shut number place) inner at next = refl
+  part-moved (RefusedBefore number place) inner at next = refl
   part-moved (Open left) inner at next = by (run (steps names inner (end-at 0)) left)
     where
-      by : (r : Run) → movedTo next (partBy r (valueOf names inner) at) ≡ partBy r (valueOf names inner) next
+      by : (r : Run) → movedTo next (partBy r (treeValue names inner) at) ≡ partBy r (treeValue names inner) next
       by (finished end left′) = refl
-      by (stopped number place) = refl
+      by (refused number place) = refl
 
   pub part-covered : (operator : Operator) (account : Account) (parsed : Parsed)
       → coveredPart operator (partOf names account parsed) ≡ partOf names account (covered operator parsed)
-  part-covered operator account (wrong fault place) = refl
-  part-covered operator (Shut number place) (tree inner next) = refl
+  part-covered operator account (faulty fault place) = refl
+  part-covered operator (RefusedBefore number place) (tree inner next) = refl
   part-covered operator (Open left) (tree inner next) = by (run (steps names inner (end-at 0)) left)
     where
-      by : (r : Run) → coveredPart operator (partBy r (valueOf names inner) next) ≡ partBy r (valueOf names (unary operator inner)) next
+      by : (r : Run) → coveredPart operator (partBy r (treeValue names inner) next) ≡ partBy r (treeValue names (unary operator inner)) next
       by (finished end left′) = refl
-      by (stopped number place) = refl
+      by (refused number place) = refl
 
-  pub part-behind : (text : List ℕ) (level : ℕ) (account : Account) (inner : Tree) (at : ℕ)
-      → behindPart text level (partOf names account (tree inner at)) ≡ binding level (tokenAt text at)
-  part-behind text level (Shut number place) inner at = refl
-  part-behind text level (Open left) inner at = by (run (steps names inner (end-at 0)) left)
+  pub part-link : (text : List ℕ) (level : ℕ) (account : Account) (inner : Tree) (at : ℕ)
+      → linkBehind text level (partOf names account (tree inner at)) ≡ linkAt text level at
+  part-link text level (RefusedBefore number place) inner at = refl
+  part-link text level (Open left) inner at = by (run (steps names inner (end-at 0)) left)
     where
-      by : (r : Run) → behindPart text level (partBy r (valueOf names inner) at) ≡ binding level (tokenAt text at)
+      by : (r : Run) → linkBehind text level (partBy r (treeValue names inner) at) ≡ linkAt text level at
       by (finished end left′) = refl
-      by (stopped number place) = refl
+      by (refused number place) = refl
 
   -- two operands, the right one evaluated behind the left one
-  module _ (operator : Operator) (place : ℕ) (l r : Tree) (next : ℕ) where
+  module _ (operator : Operator) (place : ℕ) (lhs rhs : Tree) (next : ℕ) where
     abbrev both : Tree
-    both = binary operator place l r
+    both = binary operator place lhs rhs
 
-    applied-run : (left : ℕ) → appliedPart operator place (valueOf names l) (valueOf names r) left next
-        ≡ partBy (run (divided operator place (valueOf names r) (end-at 0)) left) (valueOf names both) next
+    applied-run : (left : ℕ) → appliedPart operator place (treeValue names lhs) (treeValue names rhs) left next
+        ≡ partBy (run (divided operator place (treeValue names rhs) (end-at 0)) left) (treeValue names both) next
     unfolding appliedPart divided
-    applied-run left = either-way (divides operator && eqb (valueOf names r) 0)
+    applied-run left = either-way (divides operator && eqb (treeValue names rhs) 0)
       where
-        either-way : (b : Bool) → cond b (Refused zero-divisor place next) (Value (valueOf names both) left next)
-            ≡ partBy (run (cond b (refused ZeroDivisor place) (end-at 0)) left) (valueOf names both) next
+        either-way : (b : Bool) → cond b (Refused zero-divisor place next) (Value (treeValue names both) left next)
+            ≡ partBy (run (cond b (faults ZeroDivisor place) (end-at 0)) left) (treeValue names both) next
         either-way true = refl
         either-way false = refl
 
-    right-joined : (left behind : ℕ) (y : Run) → joinedPart operator place (Value (valueOf names l) left behind) (partBy y (valueOf names r) next)
-        ≡ partBy (onward y (divided operator place (valueOf names r) (end-at 0))) (valueOf names both) next
-    right-joined left behind (finished end left′) = applied-run left′
-    right-joined left behind (stopped number at) = refl
+    rhs-joined : (left behind : ℕ) (y : Run) → joinedPart operator place (Value (treeValue names lhs) left behind) (partBy y (treeValue names rhs) next)
+        ≡ partBy (continued y (divided operator place (treeValue names rhs) (end-at 0))) (treeValue names both) next
+    rhs-joined left behind (finished end left′) = applied-run left′
+    rhs-joined left behind (refused number first) = refl
 
-    left-joined : (at : ℕ) (x : Run) → joinedPart operator place (partBy x (valueOf names l) at) (partOf names (accountOf (partBy x (valueOf names l) at)) (tree r next))
-        ≡ partBy (onward x (steps names r (divided operator place (valueOf names r) (end-at 0)))) (valueOf names both) next
-    left-joined at (stopped number place′) = refl
-    left-joined at (finished end left) =
-        right-joined left at (run (steps names r (end-at 0)) left)
-        ∙ ap (λ x. partBy x (valueOf names both) next) (sym (steps-run r left (divided operator place (valueOf names r) (end-at 0))))
+    lhs-joined : (at : ℕ) (x : Run) → joinedPart operator place (partBy x (treeValue names lhs) at) (partOf names (accountOf (partBy x (treeValue names lhs) at)) (tree rhs next))
+        ≡ partBy (continued x (steps names rhs (divided operator place (treeValue names rhs) (end-at 0)))) (treeValue names both) next
+    lhs-joined at (refused number place′) = refl
+    lhs-joined at (finished end left) =
+        rhs-joined left at (run (steps names rhs (end-at 0)) left)
+        ∙ ap (λ x. partBy x (treeValue names both) next) (sym (steps-run rhs left (divided operator place (treeValue names rhs) (end-at 0))))
 
-  pub part-joined : (operator : Operator) (place : ℕ) (account : Account) (l : Tree) (at : ℕ) (parsed : Parsed)
-      → joinedPart operator place (partOf names account (tree l at)) (partOf names (accountOf (partOf names account (tree l at))) parsed)
-      ≡ partOf names account (joined operator place l parsed)
-  part-joined operator place account l at (wrong fault p) = refl
-  part-joined operator place (Shut number p) l at (tree r next) = refl
-  part-joined operator place (Open left) l at (tree r next) =
-      left-joined operator place l r next at (run (steps names l (end-at 0)) left)
-      ∙ ap (λ x. partBy x (valueOf names (binary operator place l r)) next)
-      (sym (steps-run l left (steps names r (divided operator place (valueOf names r) (end-at 0)))))
+  pub part-joined : (operator : Operator) (place : ℕ) (account : Account) (lhs : Tree) (at : ℕ) (parsed : Parsed)
+      → joinedPart operator place (partOf names account (tree lhs at)) (partOf names (accountOf (partOf names account (tree lhs at))) parsed)
+      ≡ partOf names account (joined operator place lhs parsed)
+  part-joined operator place account lhs at (faulty fault p) = refl
+  part-joined operator place (RefusedBefore number p) lhs at (tree rhs next) = refl
+  part-joined operator place (Open left) lhs at (tree rhs next) =
+      lhs-joined operator place lhs rhs next at (run (steps names lhs (end-at 0)) left)
+      ∙ ap (λ x. partBy x (treeValue names (binary operator place lhs rhs)) next)
+      (sym (steps-run lhs left (steps names rhs (divided operator place (treeValue names rhs) (end-at 0)))))
 
   module _ (account : Account) (inner : Tree) (here : ℕ) where
-    closed-by : (token : Token) (at next : ℕ)
-        → closedPartBy (partOf names account (tree inner here)) token at next ≡ partOf names account (closedBy inner token at next)
-    closed-by Close at next = part-moved account inner here next
-    closed-by End at next = refl
-    closed-by (Operates operator) at next = refl
-    closed-by (Number value) at next = refl
-    closed-by (BadNumber fault place) at next = refl
-    closed-by Name at next = refl
-    closed-by Bracket at next = refl
-    closed-by Strange at next = refl
+    closed-by : (token : Token) (place next : ℕ)
+        → closedPartBy (partOf names account (tree inner here)) token place next ≡ partOf names account (closedBy inner token place next)
+    closed-by Close place next = part-moved account inner here next
+    closed-by End place next = refl
+    closed-by (Operates operator) place next = refl
+    closed-by (Number value) place next = refl
+    closed-by (FaultyNumber fault digit) place next = refl
+    closed-by Name place next = refl
+    closed-by Bracket place next = refl
+    closed-by Strange place next = refl
 
-    ended-by : (token : Token) (at : ℕ) → endedPartBy (partOf names account (tree inner here)) token at ≡ partOf names account (wholeBy inner token at)
-    ended-by End at = part-moved account inner here at
-    ended-by Close at = refl
-    ended-by (Operates operator) at = refl
-    ended-by (Number value) at = refl
-    ended-by (BadNumber fault place) at = refl
-    ended-by Name at = refl
-    ended-by Bracket at = refl
-    ended-by Strange at = refl
+    ended-by : (token : Token) (place : ℕ) → endedPartBy (partOf names account (tree inner here)) token place ≡ partOf names account (endedBy inner token place)
+    ended-by End place = part-moved account inner here place
+    ended-by Close place = refl
+    ended-by (Operates operator) place = refl
+    ended-by (Number value) place = refl
+    ended-by (FaultyNumber fault digit) place = refl
+    ended-by Name place = refl
+    ended-by Bracket place = refl
+    ended-by Strange place = refl
 
   pub part-closed : (text : List ℕ) (account : Account) (parsed : Parsed)
-      → closedPart text (partOf names account parsed) ≡ partOf names account (closed text parsed)
-  part-closed text account (wrong fault place) = refl
-  part-closed text (Shut number place) (tree inner at) = let behind = tokenAt text at in closed-by (Shut number place) inner at (behind .token) (behind .at) (behind .next)
+      → closedPart text (partOf names account parsed) ≡ partOf names account (closedTree text parsed)
+  part-closed text account (faulty fault place) = refl
+  part-closed text (RefusedBefore number place) (tree inner at) = let behind = tokenAt text at in closed-by (RefusedBefore number place) inner at (behind .token) (behind .place) (behind .next)
   part-closed text (Open left) (tree inner at) =
-      by (run (steps names inner (end-at 0)) left) ∙ closed-by (Open left) inner at (behind .token) (behind .at) (behind .next)
+      by (run (steps names inner (end-at 0)) left) ∙ closed-by (Open left) inner at (behind .token) (behind .place) (behind .next)
     where
-      behind : Lexed
+      behind : Lexeme
       behind = tokenAt text at
 
-      by : (r : Run) → closedPart text (partBy r (valueOf names inner) at) ≡ closedPartBy (partBy r (valueOf names inner) at) (behind .token) (behind .at) (behind .next)
+      by : (r : Run) → closedPart text (partBy r (treeValue names inner) at) ≡ closedPartBy (partBy r (treeValue names inner) at) (behind .token) (behind .place) (behind .next)
       by (finished end left′) = refl
-      by (stopped number place) = refl
+      by (refused number place) = refl
 
   pub part-ended : (text : List ℕ) (account : Account) (parsed : Parsed)
-      → endedPart text (partOf names account parsed) ≡ partOf names account (ended text parsed)
-  part-ended text account (wrong fault place) = refl
-  part-ended text (Shut number place) (tree inner at) = ended-by (Shut number place) inner at (tokenAt text at .token) (tokenAt text at .at)
+      → endedPart text (partOf names account parsed) ≡ partOf names account (endedTree text parsed)
+  part-ended text account (faulty fault place) = refl
+  part-ended text (RefusedBefore number place) (tree inner at) = ended-by (RefusedBefore number place) inner at (tokenAt text at .token) (tokenAt text at .place)
   part-ended text (Open left) (tree inner at) =
-      by (run (steps names inner (end-at 0)) left) ∙ ended-by (Open left) inner at (tokenAt text at .token) (tokenAt text at .at)
+      by (run (steps names inner (end-at 0)) left) ∙ ended-by (Open left) inner at (tokenAt text at .token) (tokenAt text at .place)
     where
-      by : (r : Run) → endedPart text (partBy r (valueOf names inner) at) ≡ endedPartBy (partBy r (valueOf names inner) at) (tokenAt text at .token) (tokenAt text at .at)
+      by : (r : Run) → endedPart text (partBy r (treeValue names inner) at) ≡ endedPartBy (partBy r (treeValue names inner) at) (tokenAt text at .token) (tokenAt text at .place)
       by (finished end left′) = refl
-      by (stopped number place) = refl
+      by (refused number place) = refl
 
   -- the answer that the code makes of a part is that of the evaluation
   pub part-answer : (left : ℕ) (parsed : Parsed)
       → answerOf (partOf names (Open left) parsed) ≡ evaluatedBy (run (evaluation names parsed) left) (result names parsed)
-  part-answer left (wrong fault place) = refl
+  part-answer left (faulty fault place) = refl
   part-answer left (tree whole end) =
-      by (run (steps names whole (end-at 0)) left) ∙ ap (λ r. evaluatedBy r (valueOf names whole)) (sym (steps-run whole left (end-at end)))
+      by (run (steps names whole (end-at 0)) left) ∙ ap (λ r. evaluatedBy r (treeValue names whole)) (sym (steps-run whole left (end-at end)))
     where
-      by : (r : Run) → answerOf (partBy r (valueOf names whole) end) ≡ evaluatedBy (onward r (end-at end)) (valueOf names whole)
+      by : (r : Run) → answerOf (partBy r (treeValue names whole) end) ≡ evaluatedBy (continued r (end-at end)) (treeValue names whole)
       by (finished end′ left′) = refl
-      by (stopped number place) = refl
+      by (refused number place) = refl

@@ -14,7 +14,7 @@ use Rattle.paper.proofs.Choice.{either}
 use Rattle.paper.proofs.Spaces.{inside}
 use Rattle.variables.specs.Records.{sameBytes}
 use Rattle.expressions.specs.declared.tokens.Token.{Token}
-use Rattle.expressions.specs.Tokens.{wordByte, wordRun, lexed}
+use Rattle.expressions.specs.Tokens.{wordByte, wordRun, lexeme}
 
 pub started : (text : List ℕ) (at : ℕ) → ends (getD text at 0) ≡ false → at < length text
 started text at h = inside text at (go (getD text at 0) h) where
@@ -54,5 +54,5 @@ other-length [] (y ∷ ys) n = refl
 other-length (x ∷ xs) [] n = refl
 other-length (x ∷ xs) (y ∷ ys) n = rw (other-length xs ys (λ e. n (ap suc e))) (and-false (eqb x y))
 
-pub no-bytes : (token : Token) (at : ℕ) → record { token = token; at = at; next = at } ≡ lexed token at 0
-no-bytes token at = ap (λ next. record { token = token; at = at; next = next }) (sym (add-zero at))
+pub no-bytes : (token : Token) (at : ℕ) → record { token = token; place = at; next = at } ≡ lexeme token at 0
+no-bytes token at = ap (λ next. record { token = token; place = at; next = next }) (sym (add-zero at))

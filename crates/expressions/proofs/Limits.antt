@@ -1,78 +1,73 @@
 -- How far the numbers of an evaluation go: every place lies in the text, and every refusal is a listed one.
 use mathlib.Core.Bool.{cond, true, false, _&&_}
 use mathlib.Core.List.{List, List·Memᴰ, Memᴰ·append-left, List·Memᴰ·head as head}
-use mathlib.Core.Path.{_≡_, refl}
+use mathlib.Core.Path.{_≡_, refl, subst}
 use Prim.Native.Nat.{ℕ, zero, suc, _+_, _≤_}
 use native.Mathlib.Omega.{arith}
-use borrow.Author.Tests.{ltb-false}
-use lib.Dec.{ltb, eqb}
+use lib.Dec.{eqb}
 use lib.ListN.{length, getD, drop, length-drop}
 use Rattle.paper.specs.Bytes.{spaces, ends}
 use Rattle.paper.specs.Refusals.{no-digit, bad-base, too-big, unknown-name, too-deep, allowance-spent, bad-expression, zero-divisor, not-an-integer, over-length, longest}
 use Rattle.paper.specs.Texts.{bytes}
-use Rattle.paper.specs.Traces.{Trace, Run, finished, stopped, run, ended as end-at, allowed}
-use Rattle.paper.specs.Traces as Traces
+use Rattle.paper.specs.Traces.{faultNumber, Trace, Run, finished, refused, run, runPlace, ended as end-at, allowed}
 use Rattle.paper.specs.declared.faults.Fault.{Fault}
 use Rattle.paper.specs.declared.faults.Fault.the-variants.{TooDeep, BadExpression}
 use Rattle.paper.proofs.Choice.{either}
-use Rattle.paper.proofs.Placed.{Placed, ended-at, refused-at, asks-on, spends-at, placeOf as placeReached, run-placed, member, Listed, run-listed}
-use Rattle.paper.proofs.DemandThree.{stopped-number}
+use Rattle.paper.proofs.Placed.{Placed, ended-at, faults-at, asks-on, spends-at, run-placed}
+use Rattle.paper.proofs.Listed.{member, Listed, ended-listed, faults-listed, asks-listed, spends-listed, RunListed, run-listed}
+use Rattle.paper.proofs.DemandThree.{refused-number}
 use Rattle.paper.proofs.Spaces.{skipped-within}
-use Rattle.reader.specs.Reading.{reading}
+use Rattle.reader.specs.Reading.{no-limit, reading}
 use Rattle.reader.specs.declared.Reading.{Reading}
 use Rattle.reader.specs.declared.Reading.the-variants.{Value, Refused}
 use Rattle.variables.specs.Records.{sameBytes}
-use Rattle.variables.specs.Tables.{checked}
+use Rattle.variables.specs.Judgements.{Judged, good, long-text, bad-table, judgement}
 use Rattle.variables.specs.Names.{Meaning, unknown, string-of, integer-of, macro-of, namesOf}
-use Rattle.variables.specs.declared.Checked.{Checked}
-use Rattle.variables.specs.declared.Checked.the-variants.{Good, Refused as Unsound}
+use Rattle.variables.proofs.Judging as Judging
 use Rattle.variables.proofs.Bounds.{Bounded as Checks, checked-bounded}
 use Rattle.arithmetic.specs.Operators.{levelOf, loosest, standsAlone, divides}
-use Rattle.expressions.specs.Tokens.{letter, wordToken, faultOf, numberBy, single, fromLess, fromGreater, symbolAt, numeral, startingAt, tokenAt}
-use Rattle.expressions.specs.Trees.{Tree, constant, variable, unary, binary, Parsed, tree, wrong, bindingBy, binding, joined, covered, extended, closedBy, wholeBy, Deeper, following, levelAt, closed, operandBy, deepest, oneDeeper, startedIn, operandAt, ended, whole}
-use Rattle.expressions.specs.Evaluations.{named, divided, valueOf, steps, evaluation}
-use Rattle.expressions.specs.Answers.{readingOf, valueIn, evaluatedBy, evaluatedOver, evaluated, numberOf, placeOf, metNumbers, evaluateNumbers}
+use Rattle.expressions.specs.Tokens.{Lexeme, letter, wordToken, faultOf, numberBy, single, fromLess, fromGreater, symbolAt, numeral, startingAt, tokenAt}
+use Rattle.expressions.specs.Trees.{Tree, constant, variable, unary, binary, Parsed, tree, faulty, Link, binds, none, linkBy, linkAt, joined, covered, extended, closedBy, endedBy, Deeper, operatorsFrom, levelAt, closedTree, operandBy, deepest, oneDeeper, startedIn, operandAt, endedTree, wholeTree}
+use Rattle.expressions.specs.Evaluations.{nameSteps, divided, treeValue, steps, evaluation}
+use Rattle.expressions.specs.Answers.{readingOf, valueIn, evaluatedBy, evaluatedOver, evaluated, evaluatedNumber, evaluatedPlace, metNumbers, evaluateNumbers}
 use Rattle.expressions.specs.declared.Evaluated.{Evaluated}
 use Rattle.arithmetic.specs.declared.operators.Operator.{Operator}
-use Rattle.expressions.specs.declared.tokens.Lexed.{Lexed}
 use Rattle.expressions.specs.declared.tokens.Token.{Token}
-use Rattle.expressions.specs.declared.tokens.Token.the-variants.{End, Operator as Operates, Number, BadNumber, Name, Open, Close, Strange}
-use Rattle.expressions.specs.declared.levels.Behind.{Behind}
-use Rattle.expressions.specs.declared.levels.Behind.the-variants.{Binds, Other}
+use Rattle.expressions.specs.declared.tokens.Token.the-variants.{End, Operator as Operates, Number, FaultyNumber, Name, Open, Close, Strange}
 use Rattle.expressions.proofs.Places.{Takes, stands, Reads, reading-reads}
 use Rattle.expressions.proofs.Onward.{binds-onward}
 
 -- a fault that an evaluation can be refused for
 abbrev Mentioned : Fault → Type 0
-Mentioned fault = List·Memᴰ (Traces.numberOf fault) evaluateNumbers
+Mentioned fault = List·Memᴰ (faultNumber fault) evaluateNumbers
 
 -- a number that the reader refuses is refused inside a text of so many bytes
-abbrev BadIn : ℕ → Token → Type 0
-BadIn size End = Unit {0}
-BadIn size (Operates operator) = Unit {0}
-BadIn size (Number value) = Unit {0}
-BadIn size (BadNumber fault place) = Mentioned fault × (place ≤ size)
-BadIn size Name = Unit {0}
-BadIn size Open = Unit {0}
-BadIn size Close = Unit {0}
-BadIn size Strange = Unit {0}
+abbrev FaultyIn : ℕ → Token → Type 0
+FaultyIn size End = Unit {0}
+FaultyIn size (Operates operator) = Unit {0}
+FaultyIn size (Number value) = Unit {0}
+FaultyIn size (FaultyNumber fault place) = Mentioned fault × (place ≤ size)
+FaultyIn size Name = Unit {0}
+FaultyIn size Open = Unit {0}
+FaultyIn size Close = Unit {0}
+FaultyIn size Strange = Unit {0}
 
 module _ (text : List ℕ) where
   abbrev size : ℕ
   size = length text
 
   -- a token starts inside the text
-  abbrev InText : Lexed → Type 0
-  InText l = (l .at ≤ size) × BadIn size (l .token)
+  abbrev InText : Lexeme → Type 0
+  InText l = (l .place ≤ size) × FaultyIn size (l .token)
 
-  word-in : (word : List ℕ) → BadIn size (wordToken word)
+  word-in : (word : List ℕ) → FaultyIn size (wordToken word)
   unfolding wordToken
   word-in word =
-      either (BadIn size) (sameBytes (bytes "MOD") word) (λ _. tt)
-      (λ _. either (BadIn size) (sameBytes (bytes "AND") word) (λ _. tt)
-      (λ _. either (BadIn size) (sameBytes (bytes "OR") word) (λ _. tt)
-      (λ _. either (BadIn size) (sameBytes (bytes "EOR") word) (λ _. tt)
-      (λ _. either (BadIn size) (sameBytes (bytes "NOT") word) (λ _. tt) (λ _. tt)))))
+      either (FaultyIn size) (sameBytes (bytes "MOD") word) (λ _. tt)
+      (λ _. either (FaultyIn size) (sameBytes (bytes "AND") word) (λ _. tt)
+      (λ _. either (FaultyIn size) (sameBytes (bytes "OR") word) (λ _. tt)
+      (λ _. either (FaultyIn size) (sameBytes (bytes "EOR") word) (λ _. tt)
+      (λ _. either (FaultyIn size) (sameBytes (bytes "NOT") word) (λ _. tt) (λ _. tt)))))
 
   fault-in : (number : ℕ) → Mentioned (faultOf number)
   unfolding faultOf
@@ -84,15 +79,15 @@ module _ (text : List ℕ) where
   number-in at (Value n) h r = (h, tt)
   number-in at (Refused number place) h r = (h, (fault-in number, omega (arith, length-drop at text)))
 
-  single-in : (c : ℕ) → BadIn size (single c)
+  single-in : (c : ℕ) → FaultyIn size (single c)
   unfolding single
   single-in c =
-      either (BadIn size) (eqb c 40) (λ _. tt)
-      (λ _. either (BadIn size) (eqb c 41) (λ _. tt)
-      (λ _. either (BadIn size) (eqb c 42) (λ _. tt)
-      (λ _. either (BadIn size) (eqb c 43) (λ _. tt)
-      (λ _. either (BadIn size) (eqb c 45) (λ _. tt)
-      (λ _. either (BadIn size) (eqb c 47) (λ _. tt) (λ _. either (BadIn size) (eqb c 61) (λ _. tt) (λ _. tt)))))))
+      either (FaultyIn size) (eqb c 40) (λ _. tt)
+      (λ _. either (FaultyIn size) (eqb c 41) (λ _. tt)
+      (λ _. either (FaultyIn size) (eqb c 42) (λ _. tt)
+      (λ _. either (FaultyIn size) (eqb c 43) (λ _. tt)
+      (λ _. either (FaultyIn size) (eqb c 45) (λ _. tt)
+      (λ _. either (FaultyIn size) (eqb c 47) (λ _. tt) (λ _. either (FaultyIn size) (eqb c 61) (λ _. tt) (λ _. tt)))))))
 
   symbol-in : (at : ℕ) → at ≤ size → InText (symbolAt text at)
   unfolding symbolAt fromLess fromGreater
@@ -112,7 +107,7 @@ module _ (text : List ℕ) where
       let c = getD text at 0 in
       either InText (ends c) (λ _. (h, tt))
       (λ _. either InText (letter c) (λ _. (h, word-in _))
-      (λ _. either InText (numeral c) (λ _. number-in at (reading (drop at text) false 4294967295) h (reading-reads (drop at text) false 4294967295)) (λ _. symbol-in at h)))
+      (λ _. either InText (numeral c) (λ _. number-in at (reading (drop at text) false no-limit) h (reading-reads (drop at text) false no-limit)) (λ _. symbol-in at h)))
 
   token-in : (at : ℕ) → at ≤ size → InText (tokenAt text at)
   token-in at h = starting-in (at + spaces (drop at text)) (skipped-within text at h)
@@ -122,112 +117,112 @@ module _ (text : List ℕ) where
   Inside (constant pattern) = Unit {0}
   Inside (variable word place) = place ≤ size
   Inside (unary operator inner) = Inside inner
-  Inside (binary operator place left right) = (place ≤ size) × Inside left × Inside right
+  Inside (binary operator place lhs rhs) = (place ≤ size) × Inside lhs × Inside rhs
 
   data Stays : Parsed → Type 0 where
     tree-in : {t : Tree} {next : ℕ} → Inside t → next ≤ size → Stays (tree t next)
-    wrong-in : {fault : Fault} {place : ℕ} → Mentioned fault → place ≤ size → Stays (wrong fault place)
+    faulty-in : {fault : Fault} {place : ℕ} → Mentioned fault → place ≤ size → Stays (faulty fault place)
 
-  misplaced : {place : ℕ} → place ≤ size → Stays (wrong BadExpression place)
-  misplaced p = wrong-in (member bad-expression evaluateNumbers refl) p
+  misplaced : {place : ℕ} → place ≤ size → Stays (faulty BadExpression place)
+  misplaced p = faulty-in (member bad-expression evaluateNumbers refl) p
 
-  too-deep-in : {place : ℕ} → place ≤ size → Stays (wrong TooDeep place)
-  too-deep-in p = wrong-in (member too-deep evaluateNumbers refl) p
+  too-deep-in : {place : ℕ} → place ≤ size → Stays (faulty TooDeep place)
+  too-deep-in p = faulty-in (member too-deep evaluateNumbers refl) p
 
-  joined-in : (operator : Operator) (place : ℕ) (left : Tree) (parsed : Parsed) → place ≤ size → Inside left → Stays parsed → Stays (joined operator place left parsed)
-  joined-in operator place left (tree right next) p l (tree-in r n) = tree-in {t = binary operator place left right} (p, l, r) n
-  joined-in operator place left (wrong fault at) p l (wrong-in m w) = wrong-in m w
+  joined-in : (operator : Operator) (place : ℕ) (lhs : Tree) (parsed : Parsed) → place ≤ size → Inside lhs → Stays parsed → Stays (joined operator place lhs parsed)
+  joined-in operator place lhs (tree rhs next) p l (tree-in r n) = tree-in {t = binary operator place lhs rhs} (p, l, r) n
+  joined-in operator place lhs (faulty fault at) p l (faulty-in m w) = faulty-in m w
 
   covered-in : (operator : Operator) (parsed : Parsed) → Stays parsed → Stays (covered operator parsed)
   covered-in operator (tree inner next) (tree-in i n) = tree-in i n
-  covered-in operator (wrong fault at) (wrong-in m w) = wrong-in m w
+  covered-in operator (faulty fault at) (faulty-in m w) = faulty-in m w
 
   -- where an operator binds, its place is its token's
-  binds-at : (level at next place next′ : ℕ) (operator : Operator) (token : Token) → bindingBy level token at next ≡ Binds operator place next′ → place ≡ at
-  binds-at level at next place next′ operator (Operates found) e = bound (eqb (levelOf found) level) e
+  binds-at : (level here next place next′ : ℕ) (operator : Operator) (token : Token) → linkBy level token here next ≡ binds operator place next′ → place ≡ here
+  binds-at level here next place next′ operator (Operates found) e = bound (eqb (levelOf found) level) e
     where
-      bound : (b : _) → cond b (Binds found at next) Other ≡ Binds operator place next′ → place ≡ at
+      bound : (b : _) → cond b (binds found here next) none ≡ binds operator place next′ → place ≡ here
       bound true f = cc
       bound false f = let z : _≡_ {A = ℕ} 0 1 = cc in absurd (omega arith)
-  binds-at level at next place next′ operator End e = let z : _≡_ {A = ℕ} 0 1 = cc in absurd (omega arith)
-  binds-at level at next place next′ operator (Number value) e = let z : _≡_ {A = ℕ} 0 1 = cc in absurd (omega arith)
-  binds-at level at next place next′ operator (BadNumber fault p) e = let z : _≡_ {A = ℕ} 0 1 = cc in absurd (omega arith)
-  binds-at level at next place next′ operator Name e = let z : _≡_ {A = ℕ} 0 1 = cc in absurd (omega arith)
-  binds-at level at next place next′ operator Open e = let z : _≡_ {A = ℕ} 0 1 = cc in absurd (omega arith)
-  binds-at level at next place next′ operator Close e = let z : _≡_ {A = ℕ} 0 1 = cc in absurd (omega arith)
-  binds-at level at next place next′ operator Strange e = let z : _≡_ {A = ℕ} 0 1 = cc in absurd (omega arith)
+  binds-at level here next place next′ operator End e = let z : _≡_ {A = ℕ} 0 1 = cc in absurd (omega arith)
+  binds-at level here next place next′ operator (Number value) e = let z : _≡_ {A = ℕ} 0 1 = cc in absurd (omega arith)
+  binds-at level here next place next′ operator (FaultyNumber fault digit) e = let z : _≡_ {A = ℕ} 0 1 = cc in absurd (omega arith)
+  binds-at level here next place next′ operator Name e = let z : _≡_ {A = ℕ} 0 1 = cc in absurd (omega arith)
+  binds-at level here next place next′ operator Open e = let z : _≡_ {A = ℕ} 0 1 = cc in absurd (omega arith)
+  binds-at level here next place next′ operator Close e = let z : _≡_ {A = ℕ} 0 1 = cc in absurd (omega arith)
+  binds-at level here next place next′ operator Strange e = let z : _≡_ {A = ℕ} 0 1 = cc in absurd (omega arith)
 
   module _ (level : ℕ) (below : ℕ → Parsed) (tighter : (at : ℕ) → at ≤ size → Stays (below at)) where
-    following-in : (more : ℕ) (parsed : Parsed) → Stays parsed → Stays (following text more level below parsed)
-    unfolding following
-    following-in zero parsed s = s
-    following-in (suc more) (wrong fault place) s = s
-    following-in (suc more) (tree left here) (tree-in l h) = go (binding level (tokenAt text here)) refl (following-in more)
+    operators-in : (more : ℕ) (parsed : Parsed) → Stays parsed → Stays (operatorsFrom text more level below parsed)
+    unfolding operatorsFrom
+    operators-in zero parsed s = s
+    operators-in (suc more) (faulty fault place) s = s
+    operators-in (suc more) (tree lhs here) (tree-in l h) = go (linkAt text level here) refl (operators-in more)
       where
-        go : (b : Behind) → binding level (tokenAt text here) ≡ b → ((parsed : Parsed) → Stays parsed → Stays (following text more level below parsed))
-            → Stays (extended b left here below (following text more level below))
-        go Other e rest = tree-in l h
-        go (Binds operator place next) e rest =
+        go : (b : Link) → linkAt text level here ≡ b → ((parsed : Parsed) → Stays parsed → Stays (operatorsFrom text more level below parsed))
+            → Stays (extended b lhs here below (operatorsFrom text more level below))
+        go none e rest = tree-in l h
+        go (binds operator place next) e rest =
             let k = tokenAt text here in
-            let p = binds-at level (k .at) (k .next) place next operator (k .token) e in
-            rest (joined operator place left (below next))
-            (joined-in operator place left (below next) (omega (arith, p, token-in here h .0)) l (tighter next (binds-onward text level here place next operator e .1)))
+            let p = binds-at level (k .place) (k .next) place next operator (k .token) e in
+            rest (joined operator place lhs (below next))
+            (joined-in operator place lhs (below next) (omega (arith, p, token-in here h .0)) l (tighter next (binds-onward text level here place next operator e .1)))
 
   level-in : (level : ℕ) (operand : ℕ → Parsed) → ((at : ℕ) → at ≤ size → Stays (operand at)) → (at : ℕ) → at ≤ size → Stays (levelAt text level operand at)
   level-in zero operand o at h = o at h
   level-in (suc tighter) operand o at h =
-      following-in (suc tighter) (levelAt text tighter operand) (level-in tighter operand o) (suc size) _ (level-in tighter operand o at h)
+      operators-in (suc tighter) (levelAt text tighter operand) (level-in tighter operand o) (suc size) _ (level-in tighter operand o at h)
 
-  closed-by : (inner : Tree) (at next : ℕ) (token : Token) → Inside inner → at ≤ size → (Takes token → next ≤ size) → Stays (closedBy inner token at next)
-  closed-by inner at next Close i a n = tree-in i (n tt)
-  closed-by inner at next End i a n = misplaced a
-  closed-by inner at next (Operates operator) i a n = misplaced a
-  closed-by inner at next (Number value) i a n = misplaced a
-  closed-by inner at next (BadNumber fault place) i a n = misplaced a
-  closed-by inner at next Name i a n = misplaced a
-  closed-by inner at next Open i a n = misplaced a
-  closed-by inner at next Strange i a n = misplaced a
+  closed-by : (inner : Tree) (place next : ℕ) (token : Token) → Inside inner → place ≤ size → (Takes token → next ≤ size) → Stays (closedBy inner token place next)
+  closed-by inner place next Close i a n = tree-in i (n tt)
+  closed-by inner place next End i a n = misplaced a
+  closed-by inner place next (Operates operator) i a n = misplaced a
+  closed-by inner place next (Number value) i a n = misplaced a
+  closed-by inner place next (FaultyNumber fault digit) i a n = misplaced a
+  closed-by inner place next Name i a n = misplaced a
+  closed-by inner place next Open i a n = misplaced a
+  closed-by inner place next Strange i a n = misplaced a
 
-  closed-in : (parsed : Parsed) → Stays parsed → Stays (closed text parsed)
-  closed-in (wrong fault place) s = s
+  closed-in : (parsed : Parsed) → Stays parsed → Stays (closedTree text parsed)
+  closed-in (faulty fault place) s = s
   closed-in (tree inner here) (tree-in i h) =
       let k = tokenAt text here in
-      closed-by inner (k .at) (k .next) (k .token) i (token-in here h .0) (λ t. stands text here t .within)
+      closed-by inner (k .place) (k .next) (k .token) i (token-in here h .0) (λ t. stands text here t .within)
 
-  whole-by : (inner : Tree) (at : ℕ) (token : Token) → Inside inner → at ≤ size → Stays (wholeBy inner token at)
-  whole-by inner at End i a = tree-in i a
-  whole-by inner at Close i a = misplaced a
-  whole-by inner at (Operates operator) i a = misplaced a
-  whole-by inner at (Number value) i a = misplaced a
-  whole-by inner at (BadNumber fault place) i a = misplaced a
-  whole-by inner at Name i a = misplaced a
-  whole-by inner at Open i a = misplaced a
-  whole-by inner at Strange i a = misplaced a
+  ended-by : (inner : Tree) (place : ℕ) (token : Token) → Inside inner → place ≤ size → Stays (endedBy inner token place)
+  ended-by inner place End i a = tree-in i a
+  ended-by inner place Close i a = misplaced a
+  ended-by inner place (Operates operator) i a = misplaced a
+  ended-by inner place (Number value) i a = misplaced a
+  ended-by inner place (FaultyNumber fault digit) i a = misplaced a
+  ended-by inner place Name i a = misplaced a
+  ended-by inner place Open i a = misplaced a
+  ended-by inner place Strange i a = misplaced a
 
-  ended-in : (parsed : Parsed) → Stays parsed → Stays (ended text parsed)
-  ended-in (wrong fault place) s = s
-  ended-in (tree inner here) (tree-in i h) = whole-by inner (tokenAt text here .at) (tokenAt text here .token) i (token-in here h .0)
+  ended-in : (parsed : Parsed) → Stays parsed → Stays (endedTree text parsed)
+  ended-in (faulty fault place) s = s
+  ended-in (tree inner here) (tree-in i h) = ended-by inner (tokenAt text here .place) (tokenAt text here .token) i (token-in here h .0)
 
   record Covers (deeper : Deeper) : Type 0 where
-    under : (operator : Operator) (at next : ℕ) → at ≤ size → next ≤ size → Stays (deeper .under operator at next)
-    bracket : (at next : ℕ) → at ≤ size → next ≤ size → Stays (deeper .bracket at next)
+    under : (operator : Operator) (place next : ℕ) → place ≤ size → next ≤ size → Stays (deeper .under operator place next)
+    bracket : (place next : ℕ) → place ≤ size → next ≤ size → Stays (deeper .bracket place next)
 
-  operand-by : (deeper : Deeper) → Covers deeper → (at next : ℕ) (token : Token) → at ≤ size → BadIn size token → (Takes token → next ≤ size)
-      → Stays (operandBy text deeper token at next)
-  operand-by deeper d at next (Number value) a b n = tree-in tt (n tt)
-  operand-by deeper d at next (BadNumber fault place) a b n = wrong-in (b .0) (b .1)
-  operand-by deeper d at next Name a b n = tree-in a (n tt)
-  operand-by deeper d at next (Operates operator) a b n =
-      either Stays (standsAlone operator) (λ _. d .under operator at next a (n tt)) (λ _. misplaced a)
-  operand-by deeper d at next Open a b n = d .bracket at next a (n tt)
-  operand-by deeper d at next End a b n = misplaced a
-  operand-by deeper d at next Close a b n = misplaced a
-  operand-by deeper d at next Strange a b n = misplaced a
+  operand-by : (deeper : Deeper) → Covers deeper → (place next : ℕ) (token : Token) → place ≤ size → FaultyIn size token → (Takes token → next ≤ size)
+      → Stays (operandBy text deeper token place next)
+  operand-by deeper d place next (Number value) a b n = tree-in tt (n tt)
+  operand-by deeper d place next (FaultyNumber fault digit) a b n = faulty-in (b .0) (b .1)
+  operand-by deeper d place next Name a b n = tree-in a (n tt)
+  operand-by deeper d place next (Operates operator) a b n =
+      either Stays (standsAlone operator) (λ _. d .under operator place next a (n tt)) (λ _. misplaced a)
+  operand-by deeper d place next Open a b n = d .bracket place next a (n tt)
+  operand-by deeper d place next End a b n = misplaced a
+  operand-by deeper d place next Close a b n = misplaced a
+  operand-by deeper d place next Strange a b n = misplaced a
 
   started-in : (deeper : Deeper) → Covers deeper → (at : ℕ) → at ≤ size → Stays (startedIn text deeper at)
   started-in deeper d at h =
       let k = tokenAt text at in
-      operand-by deeper d (k .at) (k .next) (k .token) (token-in at h .0) (token-in at h .1) (λ t. stands text at t .within)
+      operand-by deeper d (k .place) (k .next) (k .token) (token-in at h .0) (token-in at h .1) (λ t. stands text at t .within)
 
   operand-in : (levels at : ℕ) → at ≤ size → Stays (operandAt text levels at)
   unfolding operandAt
@@ -240,56 +235,86 @@ module _ (text : List ℕ) where
       })
       at h
 
-  whole-in : Stays (whole text)
-  unfolding whole
+  whole-in : Stays (wholeTree text)
+  unfolding wholeTree
   whole-in = ended-in _ (level-in loosest (operandAt text 16) (operand-in 16) 0 (omega arith))
 
-  -- and of its evaluation
-  module _ (names : List ℕ → Meaning) where
-    named-placed : (m : Meaning) (place : ℕ) (rest : Trace) → place ≤ size → Placed evaluateNumbers size rest → Placed evaluateNumbers size (named m place rest)
-    named-placed unknown place rest p r = refused-at (member unknown-name evaluateNumbers refl) p
-    named-placed (string-of value) place rest p r = refused-at (member not-an-integer evaluateNumbers refl) p
-    named-placed (macro-of value) place rest p r = refused-at (member not-an-integer evaluateNumbers refl) p
-    named-placed (integer-of pattern) place rest p r = spends-at p r
+  -- a name is refused with one of two numbers, or spends a look-up
+  name-placed : (m : Meaning) (place : ℕ) (rest : Trace) → place ≤ size → Placed size rest → Placed size (nameSteps m place rest)
+  name-placed unknown place rest p r = faults-at p
+  name-placed (string-of value) place rest p r = faults-at p
+  name-placed (macro-of value) place rest p r = faults-at p
+  name-placed (integer-of pattern) place rest p r = spends-at p r
 
-    steps-placed : (t : Tree) (rest : Trace) → Inside t → Placed evaluateNumbers size rest → Placed evaluateNumbers size (steps names t rest)
+  name-listed : (m : Meaning) (place : ℕ) (rest : Trace) → Listed evaluateNumbers rest → Listed evaluateNumbers (nameSteps m place rest)
+  name-listed unknown place rest r = faults-listed (member unknown-name evaluateNumbers refl)
+  name-listed (string-of value) place rest r = faults-listed (member not-an-integer evaluateNumbers refl)
+  name-listed (macro-of value) place rest r = faults-listed (member not-an-integer evaluateNumbers refl)
+  name-listed (integer-of pattern) place rest r = spends-listed r
+
+  -- the places of an evaluation, and the numbers of its faults
+  module _ (names : List ℕ → Meaning) where
+    steps-placed : (t : Tree) (rest : Trace) → Inside t → Placed size rest → Placed size (steps names t rest)
     unfolding divided
     steps-placed (constant pattern) rest i r = r
-    steps-placed (variable word place) rest i r = asks-on (named-placed (names word) place rest i r)
+    steps-placed (variable word place) rest i r = asks-on (name-placed (names word) place rest i r)
     steps-placed (unary operator inner) rest i r = steps-placed inner rest i r
-    steps-placed (binary operator place left right) rest i r =
-        let last : Trace = divided operator place (valueOf names right) rest in
-        steps-placed left (steps names right last) (i .1)
-        (steps-placed right last (i .2) (either (Placed evaluateNumbers size) (divides operator && eqb (valueOf names right) 0) (λ _. refused-at (member zero-divisor evaluateNumbers refl) (i .0)) (λ _. r)))
+    steps-placed (binary operator place lhs rhs) rest i r =
+        let last : Trace = divided operator place (treeValue names rhs) rest in
+        steps-placed lhs (steps names rhs last) (i .1)
+        (steps-placed rhs last (i .2) (either (Placed size) (divides operator && eqb (treeValue names rhs) 0) (λ _. faults-at (i .0)) (λ _. r)))
 
-    evaluation-placed : (parsed : Parsed) → Stays parsed → Placed evaluateNumbers size (evaluation names parsed)
-    evaluation-placed (wrong fault place) (wrong-in m w) = refused-at m w
+    steps-listed : (t : Tree) (rest : Trace) → Listed evaluateNumbers rest → Listed evaluateNumbers (steps names t rest)
+    unfolding divided
+    steps-listed (constant pattern) rest r = r
+    steps-listed (variable word place) rest r = asks-listed (name-listed (names word) place rest r)
+    steps-listed (unary operator inner) rest r = steps-listed inner rest r
+    steps-listed (binary operator place lhs rhs) rest r =
+        let last : Trace = divided operator place (treeValue names rhs) rest in
+        steps-listed lhs (steps names rhs last)
+        (steps-listed rhs last
+        (either (Listed evaluateNumbers) (divides operator && eqb (treeValue names rhs) 0) (λ _. faults-listed (member zero-divisor evaluateNumbers refl)) (λ _. r)))
+
+    evaluation-placed : (parsed : Parsed) → Stays parsed → Placed size (evaluation names parsed)
+    evaluation-placed (faulty fault place) (faulty-in m w) = faults-at w
     evaluation-placed (tree t end) (tree-in i e) = steps-placed t (end-at end) i (ended-at e)
+
+    evaluation-listed : (parsed : Parsed) → Stays parsed → Listed evaluateNumbers (evaluation names parsed)
+    evaluation-listed (faulty fault place) (faulty-in m w) = faults-listed m
+    evaluation-listed (tree t end) (tree-in i e) = steps-listed t (end-at end) ended-listed
+
+module _ (text table : List ℕ) where
+  -- every place of a reading lies in its text, and every number of its faults is a listed one
+  pub reading-placed : Placed (length text) (readingOf text table)
+  reading-placed = evaluation-placed text (namesOf table) (wholeTree text) (whole-in text)
+
+  pub reading-listed : Listed evaluateNumbers (readingOf text table)
+  reading-listed = evaluation-listed text (namesOf table) (wholeTree text) (whole-in text)
 
 -- every answer's numbers are small enough to pack, and its number is a listed one
 pub record Bounded (r : Evaluated) : Type 0 where
-  pub number : numberOf r ≤ 18
-  pub place : placeOf r ≤ longest
-  pub listed : List·Memᴰ (numberOf r) evaluateNumbers
+  pub number : evaluatedNumber r ≤ 255
+  pub place : evaluatedPlace r ≤ longest
+  pub listed : List·Memᴰ (evaluatedNumber r) evaluateNumbers
 
-by-bounded : (r : Run) (value : ℕ) → placeReached r ≤ longest → ((number place : ℕ) → r ≡ stopped number place → number ≤ 18) → Listed evaluateNumbers r
+by-bounded : (r : Run) (value : ℕ) → runPlace r ≤ longest → ((number place : ℕ) → r ≡ refused number place → number ≤ 255) → RunListed evaluateNumbers r
     → Bounded (evaluatedBy r value)
 by-bounded (finished end left) value p n l = record { number = omega arith; place = p; listed = head refl }
-by-bounded (stopped number place) value p n l = record { number = n number place refl; place = p; listed = l }
+by-bounded (refused number place) value p n l = record { number = n number place refl; place = p; listed = l }
 
 pub evaluated-bounded : (text table : List ℕ) (allowance : ℕ) → Bounded (evaluated text table allowance)
 unfolding evaluated
-evaluated-bounded text table allowance =
-    either Bounded (ltb longest (length text))
-    (λ _. record { number = omega arith; place = omega arith; listed = member over-length evaluateNumbers refl })
-    (λ e. over (ltb-false longest (length text) e) (checked table) (checked-bounded table))
+evaluated-bounded text table allowance = over (judgement text table) refl
   where
-    over : length text ≤ longest → (d : Checked) → Checks d → Bounded (evaluatedOver d (readingOf text table) allowance (valueIn text table))
-    over short (Good count) b =
+    over : (j : Judged) → judgement text table ≡ j → Bounded (evaluatedOver j (run (readingOf text table) (allowed allowance)) (valueIn text table))
+    over good e =
         let t = readingOf text table in
-        let placed = evaluation-placed text (namesOf table) (whole text) (whole-in text) in
-        let within = run-placed placed (allowed allowance) in
+        let short = Judging.read text table e .0 in
+        let within = run-placed (reading-placed text table) (allowed allowance) in
         by-bounded (run t (allowed allowance)) (valueIn text table) (omega arith)
-        (λ number place q. omega (arith, stopped-number t (allowed allowance) number place q))
-        (run-listed evaluateNumbers (member allowance-spent evaluateNumbers refl) placed (allowed allowance))
-    over short (Unsound number at) b = record { number = b .number; place = b .place; listed = Memᴰ·append-left metNumbers (b .listed) }
+        (λ number place q. refused-number t (allowed allowance) number place q .1)
+        (run-listed evaluateNumbers (member allowance-spent evaluateNumbers refl) (reading-listed text table) (allowed allowance))
+    over long-text e = record { number = omega arith; place = omega arith; listed = member over-length evaluateNumbers refl }
+    over (bad-table number place) e =
+        let b = subst Checks (Judging.refused text table number place e .1) (checked-bounded table) in
+        record { number = b .number; place = b .place; listed = Memᴰ·append-left metNumbers (b .listed) }

@@ -8,16 +8,16 @@ use Rattle.paper.specs.declared.faults.Fault.the-variants.{TooDeep, BadExpressi
 use Rattle.paper.proofs.Choice.{hit, skip}
 use Rattle.variables.specs.Names.{Meaning}
 use Rattle.arithmetic.specs.Operators.{loosest, standsAlone}
-use Rattle.expressions.specs.Tokens.{tokenAt}
-use Rattle.expressions.specs.Trees.{Parsed, wrong, covered, Deeper, levelAt, closed, operandBy, deepest, oneDeeper, operandAt}
-use Rattle.expressions.specs.Steps.{partOf, coveredPart, closedPart}
+use Rattle.expressions.specs.Tokens.{Lexeme, tokenAt}
+use Rattle.expressions.specs.Trees.{Parsed, faulty, covered, Deeper, levelAt, closedTree, operandBy, deepest, oneDeeper, operandAt}
+use Rattle.expressions.specs.inner.Steps.{lexemeOf, partOf, coveredPart, closedPart}
 use Rattle.arithmetic.specs.declared.operators.Operator.{Operator}
 use Rattle.expressions.specs.declared.tokens.Lexed.{Lexed}
 use Rattle.expressions.specs.declared.tokens.Token.{Token}
 use Rattle.expressions.specs.declared.tokens.Token.the-variants.{Operator as Operates, Name, Open}
 use Rattle.expressions.specs.declared.parts.Account.{Account}
 use Rattle.expressions.specs.declared.parts.Part.{Part}
-use Rattle.expressions.specs.declared.parts.Part.the-variants.{Wrong}
+use Rattle.expressions.specs.declared.parts.Part.the-variants.{Faulty}
 use Rattle.expressions.proofs.Places.{Takes, Stands, stands}
 use Rattle.expressions.proofs.Joins.{part-covered, part-closed}
 
@@ -29,47 +29,47 @@ alone : (b : Bool) → not b ≡ false → b ≡ true
 alone true e = refl
 alone false e = sym e
 
-module _ (names : List ℕ → Meaning) (text : List ℕ) (account : Account) (levels at : ℕ) (l : Lexed) (stood : l ≡ tokenAt text at) where
-  -- what may stand over an operand with so many levels left
+module _ (names : List ℕ → Meaning) (text : List ℕ) (account : Account) (levels at : ℕ) (l : Lexed) (stood : lexemeOf l ≡ tokenAt text at) where
+  -- what may stand over an operand with so many levels more
   abbrev deeperIn : ℕ → Deeper
   deeperIn zero = deepest text
   deeperIn (suc fewer) = oneDeeper text (operandAt text fewer)
 
-  by-token : (levels : ℕ) (token : Token) → l .token ≡ token → operandBy text (deeperIn levels) token (l .at) (l .next) ≡ operandAt text levels at
+  by-token : (levels : ℕ) (token : Token) → l .token ≡ token → operandBy text (deeperIn levels) token (l .place) (l .next) ≡ operandAt text levels at
   unfolding operandAt
   by-token zero token e =
-      ap (λ k. operandBy text (deepest text) k (l .at) (l .next)) (sym e)
-      ∙ ap (λ (m : Lexed). operandBy text (deepest text) (m .token) (m .at) (m .next)) stood
+      ap (λ k. operandBy text (deepest text) k (l .place) (l .next)) (sym e)
+      ∙ ap (λ (m : Lexeme). operandBy text (deepest text) (m .token) (m .place) (m .next)) stood
   by-token (suc fewer) token e =
-      ap (λ k. operandBy text (oneDeeper text (operandAt text fewer)) k (l .at) (l .next)) (sym e)
-      ∙ ap (λ (m : Lexed). operandBy text (oneDeeper text (operandAt text fewer)) (m .token) (m .at) (m .next)) stood
+      ap (λ k. operandBy text (oneDeeper text (operandAt text fewer)) k (l .place) (l .next)) (sym e)
+      ∙ ap (λ (m : Lexeme). operandBy text (oneDeeper text (operandAt text fewer)) (m .token) (m .place) (m .next)) stood
 
   -- the part of what a token starts is the operand's
   pub starts-with : (token : Token) (parsed : Parsed) (r : Part) → l .token ≡ token
-      → parsed ≡ operandBy text (deeperIn levels) token (l .at) (l .next) → r ≡ partOf names account parsed
+      → parsed ≡ operandBy text (deeperIn levels) token (l .place) (l .next) → r ≡ partOf names account parsed
       → r ≡ partOf names account (operandAt text levels at)
   starts-with token parsed r e p h = h ∙ ap (partOf names account) (p ∙ by-token levels token e)
 
   -- the place of a name's bytes
-  pub name-stands : l .token ≡ Name → Stands text at l
+  pub name-stands : l .token ≡ Name → Stands text at (lexemeOf l)
   name-stands e =
       subst (Stands text at) (sym stood)
-      (stands text at (subst Takes (sym e ∙ ap (λ (m : Lexed). m .token) stood) tt))
+      (stands text at (subst Takes (sym e ∙ ap (λ (m : Lexeme). m .token) stood) tt))
 
   module _ (operator : Operator) (e : l .token ≡ Operates operator) where
     -- an operator that stands before no operand alone
-    pub misplaced : (r : Part) → not (standsAlone operator) ≡ true → r ≡ Wrong BadExpression (l .at)
+    pub misplaced : (r : Part) → not (standsAlone operator) ≡ true → r ≡ Faulty BadExpression (l .place)
         → r ≡ partOf names account (operandAt text levels at)
-    misplaced r n h = starts-with (Operates operator) (wrong BadExpression (l .at)) r e (skip (standsAlone operator) _ _ (not-alone _ n) refl) h
+    misplaced r n h = starts-with (Operates operator) (faulty BadExpression (l .place)) r e (skip (standsAlone operator) _ _ (not-alone _ n) refl) h
 
     pub operator-too-deep : not (standsAlone operator) ≡ false → levels ≡ 0
-        → Wrong TooDeep (l .at) ≡ partOf names account (operandAt text levels at)
+        → Faulty TooDeep (l .place) ≡ partOf names account (operandAt text levels at)
     operator-too-deep n z =
-        starts-with (Operates operator) (wrong TooDeep (l .at)) _ e
-        (skip-to (ap (λ d. deeperIn d .under operator (l .at) (l .next)) (sym z))) refl
+        starts-with (Operates operator) (faulty TooDeep (l .place)) _ e
+        (skip-to (ap (λ d. deeperIn d .under operator (l .place) (l .next)) (sym z))) refl
       where
-        skip-to : wrong TooDeep (l .at) ≡ deeperIn levels .under operator (l .at) (l .next)
-            → wrong TooDeep (l .at) ≡ operandBy text (deeperIn levels) (Operates operator) (l .at) (l .next)
+        skip-to : faulty TooDeep (l .place) ≡ deeperIn levels .under operator (l .place) (l .next)
+            → faulty TooDeep (l .place) ≡ operandBy text (deeperIn levels) (Operates operator) (l .place) (l .next)
         skip-to h = hit (standsAlone operator) _ _ (alone _ n) h
 
     pub operator-covers : (inner r : Part) → not (standsAlone operator) ≡ false → (levels ≡ 0 → ⊥)
@@ -78,18 +78,18 @@ module _ (names : List ℕ → Meaning) (text : List ℕ) (account : Account) (l
     operator-covers inner r n z i h =
         let fewer : levels ≡ suc (levels - 1) = omega arith in
         starts-with (Operates operator) (covered operator (operandAt text (levels - 1) (l .next))) r e
-        (hit (standsAlone operator) _ _ (alone _ n) (ap (λ d. deeperIn d .under operator (l .at) (l .next)) (sym fewer)))
+        (hit (standsAlone operator) _ _ (alone _ n) (ap (λ d. deeperIn d .under operator (l .place) (l .next)) (sym fewer)))
         (h ∙ ap (coveredPart operator) i ∙ part-covered names operator account (operandAt text (levels - 1) (l .next)))
 
   module _ (e : l .token ≡ Open) where
-    pub bracket-too-deep : levels ≡ 0 → Wrong TooDeep (l .at) ≡ partOf names account (operandAt text levels at)
-    bracket-too-deep z = starts-with Open (wrong TooDeep (l .at)) _ e (ap (λ d. deeperIn d .bracket (l .at) (l .next)) (sym z)) refl
+    pub bracket-too-deep : levels ≡ 0 → Faulty TooDeep (l .place) ≡ partOf names account (operandAt text levels at)
+    bracket-too-deep z = starts-with Open (faulty TooDeep (l .place)) _ e (ap (λ d. deeperIn d .bracket (l .place) (l .next)) (sym z)) refl
 
     pub bracket-covers : (inner r : Part) → (levels ≡ 0 → ⊥)
         → inner ≡ partOf names account (levelAt text loosest (operandAt text (levels - 1)) (l .next)) → r ≡ closedPart text inner
         → r ≡ partOf names account (operandAt text levels at)
     bracket-covers inner r z i h =
         let fewer : levels ≡ suc (levels - 1) = omega arith in
-        starts-with Open (closed text (levelAt text loosest (operandAt text (levels - 1)) (l .next))) r e
-        (ap (λ d. deeperIn d .bracket (l .at) (l .next)) (sym fewer))
+        starts-with Open (closedTree text (levelAt text loosest (operandAt text (levels - 1)) (l .next))) r e
+        (ap (λ d. deeperIn d .bracket (l .place) (l .next)) (sym fewer))
         (h ∙ ap (closedPart text) i ∙ part-closed names text account (levelAt text loosest (operandAt text (levels - 1)) (l .next)))

@@ -14,12 +14,11 @@ use Rattle.paper.proofs.Choice.{either, hit}
 use Rattle.paper.proofs.Spaces.{inside, spaces-within}
 use Rattle.reader.specs.declared.Reading.{Reading}
 use Rattle.reader.specs.declared.Reading.the-variants.{Value, Refused}
-use Rattle.reader.specs.Reading.{run, goesOn, judged, based, behind, marked, numbered, reading}
+use Rattle.reader.specs.Reading.{run, goesOn, no-limit, judged, based, inBase, marked, numbered, reading}
 use Rattle.reader.proofs.Laws.{run-within}
-use Rattle.expressions.specs.declared.tokens.Lexed.{Lexed}
 use Rattle.expressions.specs.declared.tokens.Token.{Token}
-use Rattle.expressions.specs.declared.tokens.Token.the-variants.{End, Operator, Number, BadNumber, Name, Open, Close, Strange}
-use Rattle.expressions.specs.Tokens.{letter, wordByte, lexed, wordAt, numberBy, fromLess, fromGreater, symbolAt, numeral, startingAt, tokenAt}
+use Rattle.expressions.specs.declared.tokens.Token.the-variants.{End, Operator, Number, FaultyNumber, Name, Open, Close, Strange}
+use Rattle.expressions.specs.Tokens.{letter, wordByte, Lexeme, lexeme, wordAt, numberBy, fromLess, fromGreater, symbolAt, numeral, startingAt, tokenAt}
 use Rattle.expressions.proofs.Laws.{started, word-more, word-within}
 
 -- the tokens that an expression is made of: operators, numbers, names, brackets
@@ -27,16 +26,16 @@ abbrev pub Takes : Token → Type 0
 Takes End = ⊥
 Takes (Operator operator) = Unit {0}
 Takes (Number value) = Unit {0}
-Takes (BadNumber fault place) = ⊥
+Takes (FaultyNumber fault place) = ⊥
 Takes Name = Unit {0}
 Takes Open = Unit {0}
 Takes Close = Unit {0}
 Takes Strange = ⊥
 
 -- it starts at or behind the place asked for, goes on behind it, and ends inside the text
-pub record Stands (text : List ℕ) (at : ℕ) (l : Lexed) : Type 0 where
-  pub starts : at ≤ l .at
-  pub forward : l .at < l .next
+pub record Stands (text : List ℕ) (at : ℕ) (l : Lexeme) : Type 0 where
+  pub starts : at ≤ l .place
+  pub forward : l .place < l .next
   pub within : l .next ≤ length text
 
 -- a number that is read takes a byte at least, and ends inside the text; one that is refused is refused there
@@ -62,9 +61,9 @@ module _ (text : List ℕ) (whole : Bool) (limit start : ℕ) where
   based-reads : (first base : ℕ) → start ≤ length text → first ≤ length text → R (based text whole limit start first base)
   based-reads first base s f = judged-reads first _ _ s (omega arith) (run-within base first text f)
 
-  behind-reads : (first base : ℕ) → start ≤ length text → first ≤ length text → R (behind text whole limit start first base)
-  unfolding behind
-  behind-reads first base s f = either R (ltb base 2 || ltb 36 base) (λ _. s) (λ _. based-reads first base s f)
+  in-base-reads : (first base : ℕ) → start ≤ length text → first ≤ length text → R (inBase text whole limit start first base)
+  unfolding inBase
+  in-base-reads first base s f = either R (ltb base 2 || ltb 36 base) (λ _. s) (λ _. based-reads first base s f)
 
   numbered-reads : start ≤ length text → R (numbered text whole limit start)
   unfolding numbered
@@ -75,7 +74,7 @@ module _ (text : List ℕ) (whole : Bool) (limit start : ℕ) where
       (λ _. either R (marked text start mark)
       (λ m.
       let u = eqb-true (getD text mark 0) 95 (and-eq-true-iff (ltb start mark) _ .0 m .1) in
-      behind-reads (mark + 1) _ s (omega (arith, inside text mark (omega arith))))
+      in-base-reads (mark + 1) _ s (omega (arith, inside text mark (omega arith))))
       (λ _. based-reads start 10 s s))
 
 pub reading-reads : (text : List ℕ) (whole : Bool) (limit : ℕ) → Reads (length text) (reading text whole limit)
@@ -85,14 +84,14 @@ reading-reads text whole limit =
 
 -- the token that starts at a place
 module _ (text : List ℕ) (at : ℕ) where
-  abbrev S : Lexed → Type 0
+  abbrev S : Lexeme → Type 0
   S l = Takes (l .token) → Stands text at l
 
-  sized : (token : Token) (size : ℕ) → 0 < size → at + size ≤ length text → S (lexed token at size)
+  sized : (token : Token) (size : ℕ) → 0 < size → at + size ≤ length text → S (lexeme token at size)
   sized token size some far _ = record { starts = omega arith; forward = omega arith; within = far }
 
   -- so many bytes, the last of which is known
-  ended : (token : Token) (last byte : ℕ) → 0 < byte → eqb (getD text (at + last) 0) byte ≡ true → S (lexed token at (last + 1))
+  ended : (token : Token) (last byte : ℕ) → 0 < byte → eqb (getD text (at + last) 0) byte ≡ true → S (lexeme token at (last + 1))
   ended token last byte b e =
       let h = eqb-true (getD text (at + last) 0) byte e in
       sized token (last + 1) (omega arith) (omega (arith, inside text (at + last) (omega arith)))
@@ -138,11 +137,11 @@ module _ (text : List ℕ) (at : ℕ) where
       (λ n.
       let h = started text at n in
       either S (letter c) (λ l. word-stands l h)
-      (λ _. either S (numeral c) (λ _. number-stands (reading (drop at text) false 4294967295) (reading-reads (drop at text) false 4294967295)) (λ _. symbol-stands h)))
+      (λ _. either S (numeral c) (λ _. number-stands (reading (drop at text) false no-limit) (reading-reads (drop at text) false no-limit)) (λ _. symbol-stands h)))
 
   ended-past : length text ≤ at → startingAt text at .token ≡ End
   unfolding startingAt
-  ended-past h = ap (λ (l : Lexed). l .token) (sym (hit (ends (getD text at 0)) _ _ (ap ends (List·getD-eq-default text 0 h)) refl))
+  ended-past h = ap (λ (l : Lexeme). l .token) (sym (hit (ends (getD text at 0)) _ _ (ap ends (List·getD-eq-default text 0 h)) refl))
 
 pub stands : (text : List ℕ) (at : ℕ) → Takes (tokenAt text at .token) → Stands text at (tokenAt text at)
 stands text at t =

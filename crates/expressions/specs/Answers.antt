@@ -1,17 +1,14 @@
 -- What an evaluation answers.
-use mathlib.Core.Bool.{cond}
 use mathlib.Core.List.{List, [], _∷_, _++_}
 use Prim.Native.Nat.{ℕ}
-use lib.Dec.{ltb}
 use lib.IntN.{ℤ}
-use lib.ListN.{length}
-use Rattle.paper.specs.Refusals.{no-digit, bad-base, too-big, unknown-name, too-deep, allowance-spent, bad-expression, zero-divisor, not-an-integer, over-length, longest}
-use Rattle.paper.specs.Traces.{Trace, Run, finished, stopped, run, allowed}
+use Rattle.paper.specs.Answers.{in-text, in-table}
+use Rattle.paper.specs.Refusals.{no-digit, bad-base, too-big, unknown-name, too-deep, allowance-spent, bad-expression, zero-divisor, not-an-integer, over-length}
+use Rattle.paper.specs.Traces.{Trace, Run, finished, refused, run, allowed}
 use Rattle.variables.specs.Names.{namesOf}
-use Rattle.variables.specs.Tables.{checked, checkNumbers}
-use Rattle.variables.specs.declared.Checked.{Checked}
-use Rattle.variables.specs.declared.Checked.the-variants.{Good, Refused as Unsound}
-use Rattle.expressions.specs.Trees.{whole}
+use Rattle.variables.specs.Judgements.{Judged, good, long-text, bad-table, judgement}
+use Rattle.variables.specs.Tables.{checkNumbers}
+use Rattle.expressions.specs.Trees.{wholeTree}
 use Rattle.arithmetic.specs.Values.{signed}
 use Rattle.expressions.specs.Evaluations.{evaluation, result}
 use Rattle.expressions.specs.declared.Evaluated.{Evaluated}
@@ -19,47 +16,53 @@ use Rattle.expressions.specs.declared.Evaluated.the-variants.{Value, Ref
 
 -- 01's reading of an expression over a table, and its value
 abbrev pub readingOf : List ℕ → List ℕ → Trace
-readingOf text table = evaluation (namesOf table) (whole text)
+readingOf text table = evaluation (namesOf table) (wholeTree text)
 
 abbrev pub valueIn : List ℕ → List ℕ → ℕ
-valueIn text table = result (namesOf table) (whole text)
+valueIn text table = result (namesOf table) (wholeTree text)
 
 abbrev pub refusedAt : ℕ → ℕ → Evaluated
 refusedAt number place = Refused number (record { 0 = place })
 
 abbrev pub evaluatedBy : Run → ℕ → Evaluated
 evaluatedBy (finished end left) value = Value value (record { 0 = end })
-evaluatedBy (stopped number place) value = refusedAt number place
+evaluatedBy (refused number place) value = refusedAt number place
 
-abbrev pub evaluatedOver : Checked → Trace → ℕ → ℕ → Evaluated
-evaluatedOver (Good count) trace allowance value = evaluatedBy (run trace (allowed allowance)) value
-evaluatedOver (Unsound number at) trace allowance value = BadTable number at
+-- by what is found before the text is read
+abbrev pub evaluatedOver : Judged → Run → ℕ → Evaluated
+evaluatedOver good run value = evaluatedBy run value
+evaluatedOver long-text run value = refusedAt over-length 0
+evaluatedOver (bad-table number place) run value = BadTable number (record { 0 = place })
 
 -- 18 for the text, 18 and 13 for the table, then the syntax, then the evaluation
 unfoldable pub evaluated : List ℕ → List ℕ → ℕ → Evaluated
 evaluated text table allowance =
-    let reading = evaluatedOver (checked table) (readingOf text table) allowance (valueIn text table) in
-    cond (ltb longest (length text)) (refusedAt over-length 0) reading
+    evaluatedOver (judgement text table) (run (readingOf text table) (allowed allowance)) (valueIn text table)
 
--- the paper's numbers of an answer: the refusal's number, 0 where accepted; the place, a bad table's in the table; the value, 0 where
+-- the paper's numbers of an answer: the refusal's number, 0 where accepted; what the place is counted in; the place; the value, 0 where
 -- refused, as its pattern and as the signed number that it stands for
-abbrev pub numberOf : Evaluated → ℕ
-numberOf (Value pattern end) = 0
-numberOf (Refused number at) = number
-numberOf (BadTable number at) = number
+abbrev pub evaluatedNumber : Evaluated → ℕ
+evaluatedNumber (Value pattern end) = 0
+evaluatedNumber (Refused number place) = number
+evaluatedNumber (BadTable number place) = number
 
-abbrev pub placeOf : Evaluated → ℕ
-placeOf (Value pattern end) = end .0
-placeOf (Refused number at) = at .0
-placeOf (BadTable number at) = at .0
+abbrev pub evaluatedCounted : Evaluated → ℕ
+evaluatedCounted (Value pattern end) = in-text
+evaluatedCounted (Refused number place) = in-text
+evaluatedCounted (BadTable number place) = in-table
 
-abbrev pub patternOf : Evaluated → ℕ
-patternOf (Value pattern end) = pattern
-patternOf (Refused number at) = 0
-patternOf (BadTable number at) = 0
+abbrev pub evaluatedPlace : Evaluated → ℕ
+evaluatedPlace (Value pattern end) = end .0
+evaluatedPlace (Refused number place) = place .0
+evaluatedPlace (BadTable number place) = place .0
 
-abbrev pub valueOf : Evaluated → ℤ
-valueOf r = signed (patternOf r)
+abbrev pub evaluatedPattern : Evaluated → ℕ
+evaluatedPattern (Value pattern end) = pattern
+evaluatedPattern (Refused number place) = 0
+evaluatedPattern (BadTable number place) = 0
+
+abbrev pub evaluatedValue : Evaluated → ℤ
+evaluatedValue r = signed (evaluatedPattern r)
 
 -- the numbers that an answer can have, in the order in which the refusals are looked for: those of a table's check, of the syntax, of the
 -- evaluation

@@ -3,4 +3,4 @@ pub mod Tokens
 pub mod Trees
 pub mod Evaluations
 pub mod Answers
-pub mod Steps
+pub mod inner

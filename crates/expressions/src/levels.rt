@@ -1,11 +1,11 @@
 // One function for each level of precedence. Each reads the operands one level tighter, with its own operators between them from the
-// left; the tightest is the operand, which calls the loosest level back for a bracket. The table's index goes along, for the
+// left; the tightest is the operand, which calls the loosest level back for a bracket. The table's keys go along, for the
 // look-ups of names.
 ghost use mathlib.Core.Path.{_≡_};
-ghost use Rattle.variables.specs.Indexes.{indexOf};
+ghost use Rattle.variables.specs.inner.Keys.{Keys};
 ghost use Rattle.variables.specs.Names.{namesOf};
-ghost use Rattle.expressions.specs.Trees.{binding, levelAt, operandAt};
-ghost use Rattle.expressions.specs.Steps.{partOf, behindPart, closedPartBy, closedPart, endedPartBy, endedPart};
+ghost use Rattle.expressions.specs.Trees.{linkBy, levelAt, operandAt};
+ghost use Rattle.expressions.specs.inner.Steps.{linkOf, partOf, linkBehind, closedPartBy, closedPart, endedPartBy, endedPart};
 ghost use Rattle.expressions.specs.declared.parts.Part.the-variants as Part;
 ghost use Rattle.paper.specs.declared.faults.Fault.the-variants as Fault;
 use crate::parts;
@@ -21,22 +21,24 @@ use paper::faults::Fault;
 pub enum Behind {
     Binds {
         operator: Operator,
-        at: usize,
+        place: usize,
         next: usize,
     },
     Other,
 }
 
 fn binding(level: u8, lexed: Lexed) -> Behind
-    ensures { λ r. ⌜ r ≡ binding level lexed ⌝ }
+    ensures { λ r. ⌜ linkOf r ≡ linkBy level (lexed .token) (lexed .place) (lexed .next) ⌝ }
 {
     let token = lexed.token;
-    let at = lexed.at;
-    let next = lexed.next;
     match token {
         Token::Operator(operator) => {
             if operator.level() == level {
-                return Behind::Binds { operator, at, next };
+                return Behind::Binds {
+                    operator,
+                    place: lexed.place,
+                    next: lexed.next,
+                };
             }
             Behind::Other
         }
@@ -45,7 +47,7 @@ fn binding(level: u8, lexed: Lexed) -> Behind
 }
 
 fn operator_behind(text: &[u8], level: u8, part: Part) -> Behind
-    ensures { λ r. ⌜ r ≡ behindPart (now (text .entry)) level part ⌝ }
+    ensures { λ r. ⌜ linkOf r ≡ linkBehind (now (text .entry)) level part ⌝ }
 {
     match part {
         Part::Value {
@@ -58,37 +60,37 @@ fn operator_behind(text: &[u8], level: u8, part: Part) -> Behind
             place: _,
             next,
         } => binding(level, tokens::token_at(text, next)),
-        Part::Wrong { fault: _, place: _ } => Behind::Other,
+        Part::Faulty { fault: _, place: _ } => Behind::Other,
     }
 }
 
 fn too_deep(place: usize) -> Part
-    ensures { λ r. ⌜ r ≡ Part.Wrong Fault.TooDeep place ⌝ }
+    ensures { λ r. ⌜ r ≡ Part.Faulty Fault.TooDeep place ⌝ }
 {
-    Part::Wrong {
+    Part::Faulty {
         fault: Fault::TooDeep,
         place,
     }
 }
 
 fn bad(place: usize) -> Part
-    ensures { λ r. ⌜ r ≡ Part.Wrong Fault.BadExpression place ⌝ }
+    ensures { λ r. ⌜ r ≡ Part.Faulty Fault.BadExpression place ⌝ }
 {
-    Part::Wrong {
+    Part::Faulty {
         fault: Fault::BadExpression,
         place,
     }
 }
 
 fn closed_by(part: Part, lexed: Lexed) -> Part
-    ensures { λ r. ⌜ r ≡ closedPartBy part (lexed .token) (lexed .at) (lexed .next) ⌝ }
+    ensures { λ r. ⌜ r ≡ closedPartBy part (lexed .token) (lexed .place) (lexed .next) ⌝ }
 {
     let token = lexed.token;
-    let at = lexed.at;
+    let place = lexed.place;
     let next = lexed.next;
     match token {
         Token::Close => parts::moved_to(part, next),
-        _ => bad(at),
+        _ => bad(place),
     }
 }
 
@@ -107,18 +109,18 @@ fn closed(text: &[u8], part: Part) -> Part
             place: _,
             next,
         } => closed_by(part, tokens::token_at(text, next)),
-        Part::Wrong { fault, place } => Part::Wrong { fault, place },
+        Part::Faulty { fault, place } => Part::Faulty { fault, place },
     }
 }
 
 fn ended_by(part: Part, lexed: Lexed) -> Part
-    ensures { λ r. ⌜ r ≡ endedPartBy part (lexed .token) (lexed .at) ⌝ }
+    ensures { λ r. ⌜ r ≡ endedPartBy part (lexed .token) (lexed .place) ⌝ }
 {
     let token = lexed.token;
-    let at = lexed.at;
+    let place = lexed.place;
     match token {
-        Token::End => parts::moved_to(part, at),
-        _ => bad(at),
+        Token::End => parts::moved_to(part, place),
+        _ => bad(place),
     }
 }
 
@@ -137,33 +139,26 @@ pub(crate) fn ended(text: &[u8], part: Part) -> Part
             place: _,
             next,
         } => ended_by(part, tokens::token_at(text, next)),
-        Part::Wrong { fault, place } => Part::Wrong { fault, place },
+        Part::Faulty { fault, place } => Part::Faulty { fault, place },
     }
 }
 
 // A number, a name, a bracket, or an operator before an operand. `levels` more unary operators and brackets may stand over it.
-fn operand(
-    text: &[u8],
-    table: &[u8],
-    index: &[u32],
-    levels: u8,
-    at: usize,
-    account: Account,
-) -> Part
-    requires { ⌜ now index ≡ indexOf (now table) ⌝ }
+fn operand(text: &[u8], table: &[u8], keys: &[u32], levels: u8, at: usize, account: Account) -> Part
+    requires { ⌜ Keys (now table) (now keys) ⌝ }
     ensures { λ r. ⌜ r ≡ partOf (namesOf (now (table .entry))) account (operandAt (now (text .entry)) levels at) ⌝ }
 {
     let first = tokens::token_at(text, at);
     let token = first.token;
-    let place = first.at;
+    let place = first.place;
     let next = first.next;
     match token {
         Token::Number(value) => parts::number(value, next, account),
-        Token::BadNumber(fault, digit) => Part::Wrong {
+        Token::FaultyNumber(fault, digit) => Part::Faulty {
             fault,
             place: digit,
         },
-        Token::Name => parts::named(&text[place..next], table, index, place, next, account),
+        Token::Name => parts::named(&text[place..next], table, keys, place, next, account),
         Token::Operator(operator) => {
             if !operator.stands_alone() {
                 return bad(place);
@@ -173,7 +168,7 @@ fn operand(
             }
             parts::covered(
                 operator,
-                operand(text, table, index, levels - 1, next, account),
+                operand(text, table, keys, levels - 1, next, account),
             )
         }
         Token::Open => {
@@ -182,7 +177,7 @@ fn operand(
             }
             closed(
                 text,
-                disjunction(text, table, index, levels - 1, next, account),
+                disjunction(text, table, keys, levels - 1, next, account),
             )
         }
         Token::End => bad(place),
@@ -192,42 +187,42 @@ fn operand(
 }
 
 // * / MOD
-fn term(text: &[u8], table: &[u8], index: &[u32], levels: u8, at: usize, account: Account) -> Part
-    requires { ⌜ now index ≡ indexOf (now table) ⌝ }
+fn term(text: &[u8], table: &[u8], keys: &[u32], levels: u8, at: usize, account: Account) -> Part
+    requires { ⌜ Keys (now table) (now keys) ⌝ }
     ensures { λ r. ⌜ r ≡ partOf (namesOf (now (table .entry))) account (levelAt (now (text .entry)) 1 (operandAt (now (text .entry)) levels) at) ⌝ }
 {
-    let mut left = operand(text, table, index, levels, at, account);
+    let mut lhs = operand(text, table, keys, levels, at, account);
     loop {
-        match operator_behind(text, 1, left) {
-            Behind::Other => return left,
+        match operator_behind(text, 1, lhs) {
+            Behind::Other => return lhs,
             Behind::Binds {
                 operator,
-                at: place,
+                place,
                 next,
             } => {
-                let right = operand(text, table, index, levels, next, parts::account_of(left));
-                left = parts::joined(operator, place, left, right);
+                let rhs = operand(text, table, keys, levels, next, parts::account_of(lhs));
+                lhs = parts::joined(operator, place, lhs, rhs);
             }
         }
     }
 }
 
 // + -
-fn sum(text: &[u8], table: &[u8], index: &[u32], levels: u8, at: usize, account: Account) -> Part
-    requires { ⌜ now index ≡ indexOf (now table) ⌝ }
+fn sum(text: &[u8], table: &[u8], keys: &[u32], levels: u8, at: usize, account: Account) -> Part
+    requires { ⌜ Keys (now table) (now keys) ⌝ }
     ensures { λ r. ⌜ r ≡ partOf (namesOf (now (table .entry))) account (levelAt (now (text .entry)) 2 (operandAt (now (text .entry)) levels) at) ⌝ }
 {
-    let mut left = term(text, table, index, levels, at, account);
+    let mut lhs = term(text, table, keys, levels, at, account);
     loop {
-        match operator_behind(text, 2, left) {
-            Behind::Other => return left,
+        match operator_behind(text, 2, lhs) {
+            Behind::Other => return lhs,
             Behind::Binds {
                 operator,
-                at: place,
+                place,
                 next,
             } => {
-                let right = term(text, table, index, levels, next, parts::account_of(left));
-                left = parts::joined(operator, place, left, right);
+                let rhs = term(text, table, keys, levels, next, parts::account_of(lhs));
+                lhs = parts::joined(operator, place, lhs, rhs);
             }
         }
     }
@@ -237,25 +232,25 @@ fn sum(text: &[u8], table: &[u8], index: &[u32], levels: u8, at: usize, account:
 fn relation(
     text: &[u8],
     table: &[u8],
-    index: &[u32],
+    keys: &[u32],
     levels: u8,
     at: usize,
     account: Account,
 ) -> Part
-    requires { ⌜ now index ≡ indexOf (now table) ⌝ }
+    requires { ⌜ Keys (now table) (now keys) ⌝ }
     ensures { λ r. ⌜ r ≡ partOf (namesOf (now (table .entry))) account (levelAt (now (text .entry)) 3 (operandAt (now (text .entry)) levels) at) ⌝ }
 {
-    let mut left = sum(text, table, index, levels, at, account);
+    let mut lhs = sum(text, table, keys, levels, at, account);
     loop {
-        match operator_behind(text, 3, left) {
-            Behind::Other => return left,
+        match operator_behind(text, 3, lhs) {
+            Behind::Other => return lhs,
             Behind::Binds {
                 operator,
-                at: place,
+                place,
                 next,
             } => {
-                let right = sum(text, table, index, levels, next, parts::account_of(left));
-                left = parts::joined(operator, place, left, right);
+                let rhs = sum(text, table, keys, levels, next, parts::account_of(lhs));
+                lhs = parts::joined(operator, place, lhs, rhs);
             }
         }
     }
@@ -265,25 +260,25 @@ fn relation(
 fn conjunction(
     text: &[u8],
     table: &[u8],
-    index: &[u32],
+    keys: &[u32],
     levels: u8,
     at: usize,
     account: Account,
 ) -> Part
-    requires { ⌜ now index ≡ indexOf (now table) ⌝ }
+    requires { ⌜ Keys (now table) (now keys) ⌝ }
     ensures { λ r. ⌜ r ≡ partOf (namesOf (now (table .entry))) account (levelAt (now (text .entry)) 4 (operandAt (now (text .entry)) levels) at) ⌝ }
 {
-    let mut left = relation(text, table, index, levels, at, account);
+    let mut lhs = relation(text, table, keys, levels, at, account);
     loop {
-        match operator_behind(text, 4, left) {
-            Behind::Other => return left,
+        match operator_behind(text, 4, lhs) {
+            Behind::Other => return lhs,
             Behind::Binds {
                 operator,
-                at: place,
+                place,
                 next,
             } => {
-                let right = relation(text, table, index, levels, next, parts::account_of(left));
-                left = parts::joined(operator, place, left, right);
+                let rhs = relation(text, table, keys, levels, next, parts::account_of(lhs));
+                lhs = parts::joined(operator, place, lhs, rhs);
             }
         }
     }
@@ -293,25 +288,25 @@ fn conjunction(
 pub(crate) fn disjunction(
     text: &[u8],
     table: &[u8],
-    index: &[u32],
+    keys: &[u32],
     levels: u8,
     at: usize,
     account: Account,
 ) -> Part
-    requires { ⌜ now index ≡ indexOf (now table) ⌝ }
+    requires { ⌜ Keys (now table) (now keys) ⌝ }
     ensures { λ r. ⌜ r ≡ partOf (namesOf (now (table .entry))) account (levelAt (now (text .entry)) 5 (operandAt (now (text .entry)) levels) at) ⌝ }
 {
-    let mut left = conjunction(text, table, index, levels, at, account);
+    let mut lhs = conjunction(text, table, keys, levels, at, account);
     loop {
-        match operator_behind(text, 5, left) {
-            Behind::Other => return left,
+        match operator_behind(text, 5, lhs) {
+            Behind::Other => return lhs,
             Behind::Binds {
                 operator,
-                at: place,
+                place,
                 next,
             } => {
-                let right = conjunction(text, table, index, levels, next, parts::account_of(left));
-                left = parts::joined(operator, place, left, right);
+                let rhs = conjunction(text, table, keys, levels, next, parts::account_of(lhs));
+                lhs = parts::joined(operator, place, lhs, rhs);
             }
         }
     }

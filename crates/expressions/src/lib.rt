@@ -1,9 +1,9 @@
 // Expressions: a text of numbers, names, operators and brackets, evaluated whole or refused.
 ghost use mathlib.Core.Path.{_≡_};
 ghost use Rattle.paper.specs.Traces.{run};
-ghost use Rattle.variables.specs.Indexes.{indexOf};
+ghost use Rattle.variables.specs.inner.Keys.{Keys};
 ghost use Rattle.expressions.specs.Answers.{readingOf, valueIn, refusedAt, evaluatedBy, evaluated};
-ghost use Rattle.expressions.specs.Steps.{answerOf};
+ghost use Rattle.expressions.specs.inner.Steps.{answerOf};
 
 mod levels;
 mod parts;
@@ -55,16 +55,16 @@ fn answer_of(part: Part) -> Evaluated
             place,
             next: _,
         } => refused(number, place),
-        Part::Wrong { fault, place } => refused(fault.number(), place),
+        Part::Faulty { fault, place } => refused(fault.number(), place),
     }
 }
 
-// A text over a good table, with the table's index.
-fn evaluate_over(text: &[u8], table: &[u8], index: &[u32], left: u32) -> Evaluated
-    requires { ⌜ now index ≡ indexOf (now table) ⌝ }
+// A text over a good table, with the table's keys.
+fn evaluate_over(text: &[u8], table: &[u8], keys: &[u32], left: u32) -> Evaluated
+    requires { ⌜ Keys (now table) (now keys) ⌝ }
     ensures { λ r. ⌜ r ≡ evaluatedBy (run (readingOf (now (text .entry)) (now (table .entry))) left) (valueIn (now (text .entry)) (now (table .entry))) ⌝ }
 {
-    let part = levels::disjunction(text, table, index, LEVELS, 0, Account::Open(left));
+    let part = levels::disjunction(text, table, keys, LEVELS, 0, Account::Open(left));
     answer_of(levels::ended(text, part))
 }
 
@@ -75,12 +75,14 @@ pub fn evaluate(text: &[u8], table: &[u8], allowance: u32) -> Evaluated
     if LONGEST < text.len() {
         return refused(OVER_LENGTH, 0);
     }
-    let mut index = [0u32; 256];
-    match variables::index_table(table, &mut index) {
-        Checked::Refused { number, at } => Evaluated::BadTable { number, at },
+    let keyed = variables::key_table(table);
+    let checked = keyed.checked;
+    let keys: &[u32] = &keyed.keys;
+    match checked {
+        Checked::BadTable { number, at } => Evaluated::BadTable { number, at },
         Checked::Good(count) => {
             let left = paper::allowance::cap(allowance);
-            evaluate_over(text, table, &index[0..count], left)
+            evaluate_over(text, table, &keys[0..count], left)
         }
     }
 }

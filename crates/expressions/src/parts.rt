@@ -5,11 +5,11 @@ ghost use mathlib.Core.Bool.{_&&_};
 ghost use mathlib.Core.List.{List};
 ghost use Prim.Native.Nat.{ℕ};
 ghost use lib.Dec.{eqb};
-ghost use Rattle.variables.specs.Indexes.{indexOf};
+ghost use Rattle.variables.specs.inner.Keys.{Keys};
 ghost use Rattle.variables.specs.Names.{Meaning, namesOf};
 ghost use Rattle.arithmetic.specs.Operators.{divides};
 ghost use Rattle.expressions.specs.Trees as Trees;
-ghost use Rattle.expressions.specs.Steps.{partOf, accountOf, movedTo, coveredPart, appliedPart, joinedPart};
+ghost use Rattle.expressions.specs.inner.Steps.{partOf, accountOf, movedTo, coveredPart, appliedPart, joinedPart};
 ghost use Rattle.expressions.specs.declared.parts.Account.the-variants as Account;
 ghost use Rattle.expressions.specs.declared.parts.Part.the-variants as Part;
 use arithmetic::operators::Operator;
@@ -19,14 +19,15 @@ use paper::NOT_AN_INTEGER;
 use paper::UNKNOWN_NAME;
 use paper::ZERO_DIVISOR;
 use paper::faults::Fault;
-use variables::Found;
-use variables::index::find;
+use variables::Match;
 use variables::integers::pattern_of;
+use variables::keys::find;
+use variables::kinds::Kind;
 
 // How the evaluation stands: the look-ups that are left, or the first refusal that it met.
 pub enum Account {
     Open(u32),
-    Shut { number: u8, place: usize },
+    Refused { number: u8, place: usize },
 }
 
 pub enum Part {
@@ -43,7 +44,7 @@ pub enum Part {
         next: usize,
     },
     // The syntax is refused.
-    Wrong {
+    Faulty {
         fault: Fault,
         place: usize,
     },
@@ -63,8 +64,8 @@ pub(crate) fn account_of(part: Part) -> Account
             number,
             place,
             next: _,
-        } => Account::Shut { number, place },
-        Part::Wrong { fault: _, place: _ } => Account::Open(0),
+        } => Account::Refused { number, place },
+        Part::Faulty { fault: _, place: _ } => Account::Open(0),
     }
 }
 
@@ -87,7 +88,7 @@ pub(crate) fn moved_to(part: Part, next: usize) -> Part
             place,
             next,
         },
-        Part::Wrong { fault, place } => Part::Wrong { fault, place },
+        Part::Faulty { fault, place } => Part::Faulty { fault, place },
     }
 }
 
@@ -107,7 +108,7 @@ pub(crate) fn number(value: u32, next: usize, account: Account) -> Part
 {
     match account {
         Account::Open(left) => Part::Value { value, left, next },
-        Account::Shut { number, place } => Part::Refused {
+        Account::Refused { number, place } => Part::Refused {
             number,
             place,
             next,
@@ -116,24 +117,27 @@ pub(crate) fn number(value: u32, next: usize, account: Account) -> Part
 }
 
 // A name must be known, and an integer variable; then it spends one look-up.
-fn look_up(name: &[u8], table: &[u8], index: &[u32], place: usize, next: usize, left: u32) -> Part
-    requires { ⌜ now index ≡ indexOf (now table) ⌝ }
+fn look_up(name: &[u8], table: &[u8], keys: &[u32], place: usize, next: usize, left: u32) -> Part
+    requires { ⌜ Keys (now table) (now keys) ⌝ }
     ensures { λ r. ⌜ r ≡ partOf (namesOf (now (table .entry))) (Account.Open left) (Trees.tree (Trees.variable (now (name .entry)) place) next) ⌝ }
 {
-    match find(table, index, name) {
-        Found::Nothing => refused(UNKNOWN_NAME, place, next),
-        Found::Unsound { number: _, at: _ } => refused(UNKNOWN_NAME, place, next),
-        Found::At(v) => {
-            if v.kind != 1 {
-                return refused(NOT_AN_INTEGER, place, next);
-            }
-            if left == 0 {
-                return refused(ALLOWANCE_SPENT, place, next);
-            }
-            Part::Value {
-                value: pattern_of(variables::value_of(table, v)),
-                left: left - 1,
-                next,
+    match find(table, keys, name) {
+        Match::Missing => refused(UNKNOWN_NAME, place, next),
+        Match::Record(v) => {
+            let kind = v.kind;
+            match kind {
+                Kind::Text => refused(NOT_AN_INTEGER, place, next),
+                Kind::Macro => refused(NOT_AN_INTEGER, place, next),
+                Kind::Integer => {
+                    if left == 0 {
+                        return refused(ALLOWANCE_SPENT, place, next);
+                    }
+                    Part::Value {
+                        value: pattern_of(variables::value_of(table, v)),
+                        left: left - 1,
+                        next,
+                    }
+                }
             }
         }
     }
@@ -143,17 +147,17 @@ fn look_up(name: &[u8], table: &[u8], index: &[u32], place: usize, next: usize, 
 pub(crate) fn named(
     name: &[u8],
     table: &[u8],
-    index: &[u32],
+    keys: &[u32],
     place: usize,
     next: usize,
     account: Account,
 ) -> Part
-    requires { ⌜ now index ≡ indexOf (now table) ⌝ }
+    requires { ⌜ Keys (now table) (now keys) ⌝ }
     ensures { λ r. ⌜ r ≡ partOf (namesOf (now (table .entry))) account (Trees.tree (Trees.variable (now (name .entry)) place) next) ⌝ }
 {
     match account {
-        Account::Open(left) => look_up(name, table, index, place, next, left),
-        Account::Shut {
+        Account::Open(left) => look_up(name, table, keys, place, next, left),
+        Account::Refused {
             number,
             place: first,
         } => Part::Refused {
@@ -183,20 +187,20 @@ pub(crate) fn covered(operator: Operator, part: Part) -> Part
             place,
             next,
         },
-        Part::Wrong { fault, place } => Part::Wrong { fault, place },
+        Part::Faulty { fault, place } => Part::Faulty { fault, place },
     }
 }
 
-fn divides_by_zero(operator: Operator, r: u32) -> bool
-    ensures { λ b. ⌜ b ≡ (divides operator && eqb r 0) ⌝ }
+fn divides_by_zero(operator: Operator, rhs: u32) -> bool
+    ensures { λ b. ⌜ b ≡ (divides operator && eqb rhs 0) ⌝ }
 {
-    operator.divides() && r == 0
+    operator.divides() && rhs == 0
 }
 
-fn applied(operator: Operator, place: usize, l: u32, r: u32, left: u32, next: usize) -> Part
-    ensures { λ p. ⌜ p ≡ appliedPart operator place l r left next ⌝ }
+fn applied(operator: Operator, place: usize, lhs: u32, rhs: u32, left: u32, next: usize) -> Part
+    ensures { λ p. ⌜ p ≡ appliedPart operator place lhs rhs left next ⌝ }
 {
-    if divides_by_zero(operator, r) {
+    if divides_by_zero(operator, rhs) {
         return Part::Refused {
             number: ZERO_DIVISOR,
             place,
@@ -204,47 +208,59 @@ fn applied(operator: Operator, place: usize, l: u32, r: u32, left: u32, next: us
         };
     }
     Part::Value {
-        value: values::binary(operator, l, r),
+        value: values::binary(operator, lhs, rhs),
         left,
         next,
     }
 }
 
 // Two parts and the operator between them, at its place; the right one was evaluated behind the left one.
-pub(crate) fn joined(operator: Operator, place: usize, left: Part, right: Part) -> Part
-    ensures { λ p. ⌜ p ≡ joinedPart operator place left right ⌝ }
+pub(crate) fn joined(operator: Operator, place: usize, lhs: Part, rhs: Part) -> Part
+    ensures { λ p. ⌜ p ≡ joinedPart operator place lhs rhs ⌝ }
 {
-    match right {
-        Part::Wrong { fault, place: at } => Part::Wrong { fault, place: at },
+    match rhs {
+        Part::Faulty {
+            fault,
+            place: first,
+        } => Part::Faulty {
+            fault,
+            place: first,
+        },
         Part::Refused {
             number,
-            place: at,
+            place: first,
             next,
         } => Part::Refused {
             number,
-            place: at,
+            place: first,
             next,
         },
         Part::Value {
             value: r,
-            left: rest,
+            left,
             next,
-        } => match left {
+        } => match lhs {
             Part::Value {
                 value: l,
                 left: _,
                 next: _,
-            } => applied(operator, place, l, r, rest, next),
+            } => applied(operator, place, l, r, left, next),
             Part::Refused {
                 number,
-                place: at,
+                place: first,
                 next: _,
             } => Part::Refused {
                 number,
-                place: at,
+                place: first,
                 next,
             },
-            Part::Wrong { fault, place: at } => Part::Wrong { fault, place: at },
+            Part::Faulty {
+                fault,
+                place: first,
+            } => Part::Faulty {
+                fault,
+                place: first,
+            },
         },
     }
 }

@@ -5,7 +5,8 @@ ghost use Prim.Native.Nat.{_+_, _<_, _≤_, _^_};
 ghost use lib.ListN.{length, drop};
 ghost use Rattle.expressions.specs.declared.tokens.Token.the-variants.{Operator as Operates};
 ghost use Rattle.variables.specs.Records.{sameBytes};
-ghost use Rattle.expressions.specs.Tokens.{letter, wordByte, wordRun, lexed, wordToken, wordAt, faultOf, numberAt, single, fromLess, fromGreater, symbolAt, numeral, startingAt, tokenAt};
+ghost use Rattle.expressions.specs.inner.Steps.{lexemeOf};
+ghost use Rattle.expressions.specs.Tokens.{letter, wordByte, wordRun, lexeme, wordToken, wordAt, faultOf, numberAt, single, fromLess, fromGreater, symbolAt, numeral, startingAt, tokenAt};
 use arithmetic::operators::Either;
 use arithmetic::operators::Operator;
 use arithmetic::operators::Product;
@@ -18,6 +19,7 @@ use paper::bytes::byte;
 use paper::bytes::is_end;
 use paper::bytes::skip_spaces;
 use paper::faults::Fault;
+use reader::NO_LIMIT;
 use reader::Reading;
 
 pub enum Token {
@@ -26,7 +28,7 @@ pub enum Token {
     Operator(Operator),
     Number(u32),
     // A number that the reader refuses, and where.
-    BadNumber(Fault, usize),
+    FaultyNumber(Fault, usize),
     Name,
     Open,
     Close,
@@ -37,7 +39,7 @@ pub enum Token {
 // A token, where it starts, and the first place behind it.
 pub struct Lexed {
     pub token: Token,
-    pub at: usize,
+    pub place: usize,
     pub next: usize,
 }
 
@@ -107,12 +109,12 @@ fn word_token(word: &[u8]) -> Token
 
 fn word_at(text: &[u8], at: usize) -> Lexed
     requires { ⌜ at ≤ length (now text) ⌝ }
-    ensures { λ r. ⌜ r ≡ wordAt (now (text .entry)) at ⌝ }
+    ensures { λ r. ⌜ lexemeOf r ≡ wordAt (now (text .entry)) at ⌝ }
 {
     let next = skip_word(text, at);
     Lexed {
         token: word_token(&text[at..next]),
-        at,
+        place: at,
         next,
     }
 }
@@ -131,17 +133,17 @@ fn fault_of(number: u8) -> Fault
 
 fn number_at(text: &[u8], at: usize) -> Lexed
     requires { ⌜ at ≤ length (now text) ⌝ }
-    ensures { λ r. ⌜ r ≡ numberAt (now (text .entry)) at ⌝ }
+    ensures { λ r. ⌜ lexemeOf r ≡ numberAt (now (text .entry)) at ⌝ }
 {
-    match reader::read_unsigned(&text[at..], false, 4294967295) {
+    match reader::read_unsigned(&text[at..], false, NO_LIMIT) {
         Reading::Value(n) => Lexed {
             token: Token::Number(n.value),
-            at,
+            place: at,
             next: at + n.end.0,
         },
         Reading::Refused { number, at: place } => Lexed {
-            token: Token::BadNumber(fault_of(number), at + place.0),
-            at,
+            token: Token::FaultyNumber(fault_of(number), at + place.0),
+            place: at,
             next: at,
         },
     }
@@ -176,11 +178,11 @@ fn single(c: u8) -> Token
 
 fn operator_of(operator: Operator, at: usize, size: usize) -> Lexed
     requires { ⌜ (at < 2 ^ 63) × (size ≤ 3) ⌝ }
-    ensures { λ r. ⌜ r ≡ lexed (Operates operator) at size ⌝ }
+    ensures { λ r. ⌜ lexemeOf r ≡ lexeme (Operates operator) at size ⌝ }
 {
     Lexed {
         token: Token::Operator(operator),
-        at,
+        place: at,
         next: at + size,
     }
 }
@@ -188,7 +190,7 @@ fn operator_of(operator: Operator, at: usize, size: usize) -> Lexed
 // The operators that start with "<", by the byte behind it.
 fn from_less(at: usize, c: u8) -> Lexed
     requires { ⌜ at < 2 ^ 63 ⌝ }
-    ensures { λ r. ⌜ r ≡ fromLess at c ⌝ }
+    ensures { λ r. ⌜ lexemeOf r ≡ fromLess at c ⌝ }
 {
     if c == b'>' {
         return operator_of(Operator::Relation(Relation::Unequal), at, 2);
@@ -205,7 +207,7 @@ fn from_less(at: usize, c: u8) -> Lexed
 // The operators that start with ">", by the two bytes behind it.
 fn from_greater(at: usize, c: u8, d: u8) -> Lexed
     requires { ⌜ at < 2 ^ 63 ⌝ }
-    ensures { λ r. ⌜ r ≡ fromGreater at c d ⌝ }
+    ensures { λ r. ⌜ lexemeOf r ≡ fromGreater at c d ⌝ }
 {
     if c == b'=' {
         return operator_of(Operator::Relation(Relation::AtLeast), at, 2);
@@ -221,7 +223,7 @@ fn from_greater(at: usize, c: u8, d: u8) -> Lexed
 
 fn symbol_at(text: &[u8], at: usize) -> Lexed
     requires { ⌜ at < length (now text) ⌝ }
-    ensures { λ r. ⌜ r ≡ symbolAt (now (text .entry)) at ⌝ }
+    ensures { λ r. ⌜ lexemeOf r ≡ symbolAt (now (text .entry)) at ⌝ }
 {
     let c = byte(text, at);
     if c == b'<' {
@@ -232,7 +234,7 @@ fn symbol_at(text: &[u8], at: usize) -> Lexed
     }
     Lexed {
         token: single(c),
-        at,
+        place: at,
         next: at + 1,
     }
 }
@@ -245,13 +247,13 @@ fn starts_number(c: u8) -> bool
 }
 
 fn starting_at(text: &[u8], at: usize) -> Lexed
-    ensures { λ r. ⌜ r ≡ startingAt (now (text .entry)) at ⌝ }
+    ensures { λ r. ⌜ lexemeOf r ≡ startingAt (now (text .entry)) at ⌝ }
 {
     let c = byte(text, at);
     if is_end(c) {
         return Lexed {
             token: Token::End,
-            at,
+            place: at,
             next: at,
         };
     }
@@ -266,7 +268,7 @@ fn starting_at(text: &[u8], at: usize) -> Lexed
 
 // The token behind a place.
 pub(crate) fn token_at(text: &[u8], at: usize) -> Lexed
-    ensures { λ r. ⌜ r ≡ tokenAt (now (text .entry)) at ⌝ }
+    ensures { λ r. ⌜ lexemeOf r ≡ tokenAt (now (text .entry)) at ⌝ }
 {
     starting_at(text, skip_spaces(text, at))
 }

@@ -1,15 +1,16 @@
 -- Laws of a line in a buffer, and of a number's digits.
-use mathlib.Core.Path.{_≡_, ap, subst, _∙_}
-use mathlib.Core.List.{List, _++_}
+use mathlib.Core.Path.{_≡_, refl, ap, ap₂, sym, subst, _∙_}
+use mathlib.Core.List.{List, [], _++_}
 use Prim.Native.Nat.{ℕ, _+_, _-_, _^_, _≤_, _<_}
 use native.Mathlib.Nat.{pow-le-pow-right}
 use native.Mathlib.Decide.{decLt}
 use native.Mathlib.Omega.{arith}
-use lib.ListN.{take}
+use lib.ListN.{length, take, drop, length-append}
+use lib.Seq.{take-at, drop-append-add, drop-drop}
 use Rattle.io.specs.Digits.{digits, Fewest}
 use Rattle.numbers.specs.Digits.{digitCount}
 use Rattle.numbers.proofs.Laws.{below-power, enough-least, enough-holds, enough-from}
-use Rattle.filter.specs.Lines.{decimal, refused, at, line-end, refusalLine, Longer}
+use Rattle.filter.specs.Lines.{decimal, refused, at, line-end, refusalLine}
 
 -- the fewest digits that hold a number are as many as it has
 fewest-count : (n k : ℕ) → Fewest 10 1 n k → k ≡ digitCount 10 n
@@ -24,9 +25,9 @@ fewest-count n k (one, high, low) =
         absurd (omega (arith, low (omega (arith, p, enough-from 10 n n 1)), power))
     least most holds (no p) = omega (arith, most, p)
 
-fewest-decimal : (n k : ℕ) → Fewest 10 1 n k → digits 10 k n ≡ decimal n
+pub digits-decimal : (n k : ℕ) {given : List ℕ} → Fewest 10 1 n k → given ≡ digits 10 k n → given ≡ decimal n
 unfolding decimal
-fewest-decimal n k h = ap (λ k. digits 10 k n) (fewest-count n k h)
+digits-decimal n k few e = e ∙ ap (λ k. digits 10 k n) (fewest-count n k few)
 
 -- a number of 64 bits has at most 20 digits
 pub few-digits : (n k : ℕ) → n < 18446744073709551616 → Fewest 10 1 n k → k ≤ 20
@@ -38,16 +39,39 @@ few-digits n k small (one, high, low) = most (decLt 20 k)
         absurd (omega (arith, small, low (omega (arith, p)), power))
     most (no p) = omega (arith, p)
 
-pub longer-decimal : (out digit after : List ℕ) (start n k end : ℕ) → Fewest 10 1 n k → take k digit ≡ digits 10 k n
-    → Longer out start (take k digit) end after → Longer out start (decimal n) end after
-longer-decimal out digit after start n k end few e l = subst (λ g. Longer out start g end after) (e ∙ fewest-decimal n k few) l
+-- bytes stand in a buffer from a place on and end at the next one; the rest of it is what it was
+abbrev pub Put : List ℕ → ℕ → List ℕ → ℕ → List ℕ → Type 0
+Put out start given next after = (next ≡ start + length given) × (after ≡ take start out ++ given ++ drop next out)
+
+pub put-same : (out : List ℕ) (start : ℕ) {given same after : List ℕ} {next : ℕ} → given ≡ same → Put out start given next after
+    → Put out start same next after
+put-same out start {after = after} {next = next} e = subst (λ l. Put out start l next after) e
+
+-- the same at the start of a buffer
+abbrev pub Stands : List ℕ → List ℕ → ℕ → List ℕ → Type 0
+Stands out line end after = (end ≡ length line) × (after ≡ line ++ drop end out)
+
+put-behind : (out line part : List ℕ) {middle after : List ℕ} {end next : ℕ}
+    → Stands out line end middle → Put middle end part next after → Stands out (line ++ part) next after
+put-behind out line part {middle} {after} {end} {next} (ends, text) (goes-on, laid) =
+    let old : List ℕ = drop end out in
+    let size : next ≡ length line + length part = goes-on ∙ ap (λ k. k + length part) ends in
+    let first : take end middle ≡ line = ap (take end) text ∙ take-at line old end (sym ends) in
+    let rest : drop next middle ≡ drop next out =
+    ap₂ drop size text
+    ∙ drop-append-add line old (length part)
+    ∙ drop-drop (length part) end out
+    ∙ ap (λ k. drop k out) (sym goes-on) in
+    (size ∙ sym (length-append line part), laid ∙ ap₂ (λ f l. f ++ part ++ l) first rest)
 
 -- the five parts of the line of a refusal, one after the other
-pub refusal-parts : (number place : ℕ) {o₀ o₁ o₂ o₃ o₄ o₅ : List ℕ} {e₁ e₂ e₃ e₄ e₅ : ℕ}
-    → Longer o₀ 0 refused e₁ o₁ → Longer o₁ e₁ (decimal number) e₂ o₂ → Longer o₂ e₂ at e₃ o₃
-    → Longer o₃ e₃ (decimal place) e₄ o₄ → Longer o₄ e₄ line-end e₅ o₅ → take e₅ o₅ ≡ refusalLine number place
+pub refusal-parts : (number place : ℕ) (out : List ℕ) {o₁ o₂ o₃ o₄ o₅ : List ℕ} {e₁ e₂ e₃ e₄ e₅ : ℕ}
+    → Put out 0 refused e₁ o₁ → Put o₁ e₁ (decimal number) e₂ o₂ → Put o₂ e₂ at e₃ o₃
+    → Put o₃ e₃ (decimal place) e₄ o₄ → Put o₄ e₄ line-end e₅ o₅ → Stands out (refusalLine number place) e₅ o₅
 unfolding refusalLine
-refusal-parts number place l₁ l₂ l₃ l₄ l₅ =
-    l₅ .text
-    ∙ ap (λ t. t ++ line-end)
-    (l₄ .text ∙ ap (λ t. t ++ decimal place) (l₃ .text ∙ ap (λ t. t ++ at) (l₂ .text ∙ ap (λ t. t ++ decimal number) (l₁ .text))))
+refusal-parts number place out p₁ p₂ p₃ p₄ p₅ =
+    let s₁ = put-behind out [] refused (refl, refl) p₁ in
+    let s₂ = put-behind out refused (decimal number) s₁ p₂ in
+    let s₃ = put-behind out (refused ++ decimal number) at s₂ p₃ in
+    let s₄ = put-behind out (refused ++ decimal number ++ at) (decimal place) s₃ p₄ in
+    put-behind out (refused ++ decimal number ++ at ++ decimal place) line-end s₄ p₅

@@ -1,13 +1,12 @@
--- Laws of what is shown of a translation: one that is written has as many bytes as it says, and they have room.
-use mathlib.Core.Path.{_≡_, refl, ap, sym, subst, _∙_}
+-- Laws of what is shown of a translation: one that is written has as many bytes as it says, and a refusal leaves the buffer to its line.
+use mathlib.Core.Path.{_≡_, refl, ap, ap₂, sym, subst, _∙_}
 use mathlib.Core.Bool.{cond}
-use mathlib.Core.List.{List, []}
-use Prim.Native.Nat.{ℕ, _-_, _≤_}
+use mathlib.Core.List.{List, [], _++_}
+use Prim.Native.Nat.{ℕ, _-_}
 use native.Mathlib.Omega.{arith}
 use lib.Dec.{ltb}
-use lib.ListN.{length, take, drop, length-append}
-use lib.Seq.{take-at}
-use borrow.Author.Tests.{ltb-false, ne-eqb}
+use lib.ListN.{length, drop}
+use borrow.Author.Tests.{ne-eqb}
 use Rattle.paper.specs.Refusals.{longest}
 use Rattle.paper.specs.Traces.{Trace, Run, finished, stopped, bytes, run, fit, allowed}
 use Rattle.paper.specs.declared.TextPlace.{TextPlace}
@@ -19,35 +18,35 @@ use Rattle.variables.specs.declared.Checked.the-variants.{Good, Refused as Unso
 use Rattle.gs.specs.Translations.{readingOf, refusedAt, translatedBy, translatedOver, leftBy, translated, outAfter}
 use Rattle.gs.specs.declared.Translated.{Translated}
 use Rattle.gs.specs.declared.Translated.the-variants.{Written, Refused, BadTable}
-use Rattle.io.specs.Counts.{Counts}
 use Rattle.filter.specs.Answers.{shown, answerTo}
+use Rattle.filter.proofs.LineLaws.{Stands}
 
 -- what a translation that is written says of its bytes
-abbrev Sized : Translated → List ℕ → ℕ → Type 0
-Sized (Written end need free) given room = (need ≡ length given) × (need ≤ room)
-Sized (Refused number at need free) given room = Unit {0}
-Sized (BadTable number at free) given room = Unit {0}
+abbrev Sized : Translated → List ℕ → Type 0
+Sized (Written end need free) given = need ≡ length given
+Sized (Refused number at need free) given = Unit {0}
+Sized (BadTable number at free) given = Unit {0}
 
 module _ (trace : Trace) (allowance room : ℕ) where
-  sized-run : (r : Run) → run trace allowance ≡ r → Sized (translatedBy (fit r (length (bytes trace)) room)) (bytes trace) room
+  sized-run : (r : Run) → run trace allowance ≡ r → Sized (translatedBy (fit r (length (bytes trace)) room)) (bytes trace)
   sized-run (finished end left) e =
       let size = length (bytes trace) in
-      either (λ a. Sized (translatedBy a) (bytes trace) room) (ltb room size)
+      either (λ a. Sized (translatedBy a) (bytes trace)) (ltb room size)
       {y = record { number = 0; place = end; need = size; free = room - size }} (λ _. tt)
-      (λ low. (refl, ltb-false room size low))
+      (λ _. refl)
   sized-run (stopped number place) e =
-      subst (λ z. Sized (cond z (Written (record { 0 = place }) 0 room) (refusedAt number place 0 room)) (bytes trace) room)
+      subst (λ z. Sized (cond z (Written (record { 0 = place }) 0 room) (refusedAt number place 0 room)) (bytes trace))
       (sym (ne-eqb number 0 (λ z. absurd (omega (arith, z, stopped-number trace allowance number place e))))) tt
 
-sized-over : (d : Checked) (trace : Trace) (allowance room : ℕ) → Sized (translatedOver d trace allowance room) (bytes trace) room
+sized-over : (d : Checked) (trace : Trace) (allowance room : ℕ) → Sized (translatedOver d trace allowance room) (bytes trace)
 sized-over (Good count) trace allowance room = sized-run trace (allowed allowance) room (run trace (allowed allowance)) refl
 sized-over (Unsound number at) trace allowance room = tt
 
 module _ (text table : List ℕ) (flags allowance room : ℕ) where
-  sized : Sized (translated text table flags allowance room) (bytes (readingOf text table flags)) room
+  sized : Sized (translated text table flags allowance room) (bytes (readingOf text table flags))
   unfolding translated
   sized =
-      either (λ r. Sized r (bytes (readingOf text table flags)) room) (ltb longest (length text)) (λ _. tt)
+      either (λ r. Sized r (bytes (readingOf text table flags))) (ltb longest (length text)) (λ _. tt)
       (λ _. sized-over (checked table) (readingOf text table flags) allowance room)
 
 -- a translation with no table and no flags, in the room that the program has
@@ -59,7 +58,7 @@ module _ (text table : List ℕ) (flags : ℕ) (out : List ℕ) (no-table : tabl
   abbrev given : List ℕ
   given = bytes (readingOf text table flags)
 
-  pub shown-answer : (r : Translated) → told ≡ r → shown r given ≡ answerTo text
+  shown-answer : (r : Translated) → told ≡ r → shown r given ≡ answerTo text
   unfolding answerTo
   shown-answer r e =
       ap (λ r. shown r given) (sym e)
@@ -71,12 +70,16 @@ module _ (text table : List ℕ) (flags : ℕ) (out : List ℕ) (no-table : tabl
   unfolding outAfter
   left-after after r b e = b ∙ ap (λ r. leftBy r given out) e
 
-  pub written-answer : (after : List ℕ) (end : TextPlace) (need free : ℕ)
-      → after ≡ outAfter text table flags 0 out → told ≡ Written end need free → Counts need after × (take need after ≡ answerTo text)
+  pub written-answer : (after : List ℕ) (end : TextPlace) (need free : ℕ) → after ≡ outAfter text table flags 0 out
+      → told ≡ Written end need free → Stands out (answerTo text) need after
   written-answer after end need free b e =
-      let size = subst (λ r. Sized r given (length out)) e (sized text table flags 0 (length out)) in
-      let whole = left-after after (Written end need free) b e in
-      let taken : take need after ≡ given = ap (take need) whole ∙ take-at given (drop need out) need (sym (size .0)) in (
-        (omega (arith, size, ap length whole, length-append given (drop need out)), size .0 ∙ sym (ap length taken)),
-        taken ∙ shown-answer (Written end need free) e,
-      )
+      let same : given ≡ answerTo text = shown-answer (Written end need free) e in
+      let size : need ≡ length given = subst (λ r. Sized r given) e (sized text table flags 0 (length out)) in
+      (size ∙ ap length same, left-after after (Written end need free) b e ∙ ap (λ l. l ++ drop need out) same)
+
+  -- a refusal leaves the buffer to its line
+  pub line-answer : (r : Translated) {middle after : List ℕ} {end : ℕ} → leftBy r given out ≡ out → middle ≡ outAfter text table flags 0 out
+      → told ≡ r → Stands middle (shown r given) end after → Stands out (answerTo text) end after
+  line-answer r {end = end} kept b e (ends, laid) =
+      let same : shown r given ≡ answerTo text = shown-answer r e in
+      (ends ∙ ap length same, laid ∙ ap₂ (λ l o. l ++ drop end o) same (left-after _ r b e ∙ kept))

@@ -1,8 +1,8 @@
 -- What the program writes for what it reads.
 use mathlib.Core.Path.{_≡_}
-use mathlib.Core.List.{List, []}
+use mathlib.Core.List.{List, [], _++_}
 use Prim.Native.Nat.{ℕ, _≤_}
-use lib.ListN.{length, take}
+use lib.ListN.{length, take, drop}
 use Rattle.paper.specs.Refusals.{longest}
 use Rattle.paper.specs.Traces.{bytes}
 use Rattle.gs.specs.Translations.{readingOf, translated}
@@ -20,6 +20,9 @@ shown (BadTable number at free) given = refusalLine number (at .0)
 unfoldable pub answerTo : List ℕ → List ℕ
 answerTo text = shown (translated text [] 0 0 longest) (bytes (readingOf text [] 0))
 
--- the first bytes of a buffer answer the text that stands at the start of another
-abbrev pub Answered : List ℕ → ℕ → List ℕ → ℕ → Type 0
-Answered input text out answer = (text ≤ length input) × (answer ≤ length out) × (take answer out ≡ answerTo (take text input))
+-- a buffer holds the answer to the text that stands at the start of another, and behind it what it held before
+abbrev pub Answered : List ℕ → ℕ → List ℕ → List ℕ → ℕ → Type 0
+Answered input text before after answer =
+    (text ≤ length input)
+    × (answer ≡ length (answerTo (take text input)))
+    × (after ≡ answerTo (take text input) ++ drop answer before)

@@ -1,8 +1,6 @@
--- The line of a refusal, and what a buffer holds of a line.
-use mathlib.Core.Path.{_≡_}
+-- The line of a refusal.
 use mathlib.Core.List.{List, [], _∷_, _++_}
-use Prim.Native.Nat.{ℕ, _+_}
-use lib.ListN.{length, take}
+use Prim.Native.Nat.{ℕ}
 use Rattle.io.specs.Digits.{digits}
 use Rattle.numbers.specs.Digits.{digitCount}
 
@@ -23,9 +21,3 @@ line-end = 10 ∷ []
 
 unfoldable pub refusalLine : ℕ → ℕ → List ℕ
 refusalLine number place = refused ++ decimal number ++ at ++ decimal place ++ line-end
-
--- a line in a buffer that went on by some bytes, and ends at a place now
-pub record Longer (out : List ℕ) (start : ℕ) (given : List ℕ) (end : ℕ) (after : List ℕ) : Type 0 where
-  pub long : length after ≡ length out
-  pub ends : end ≡ start + length given
-  pub text : take end after ≡ take start out ++ given

@@ -1,8 +1,7 @@
 // From standard input to standard output: a text's translation, or a line that says why there is none.
 ghost use mathlib.Core.Path.{_≡_};
-ghost use lib.ListN.{length, take};
-ghost use Rattle.paper.specs.Refusals.{longest};
-ghost use Rattle.io.specs.Counts.{Counts};
+ghost use mathlib.Core.List.{_++_};
+ghost use lib.ListN.{length, drop};
 ghost use Rattle.filter.specs.Answers.{answerTo, Answered};
 
 mod lines;
@@ -19,13 +18,14 @@ pub struct Lengths {
     pub answer: usize,
 }
 
-// The answer to a text, at the start of `out`. There is no table, no flag is set, and no look-up is allowed.
-fn answer(text: &[u8], out: &mut [u8]) -> usize
-    requires { ⌜ length (now out) ≡ longest ⌝ }
-    ensures within { λ r. ⌜ Counts r (now (out .exit)) ⌝ }
-    ensures answer { λ r. ⌜ take r (now (out .exit)) ≡ answerTo (now (text .entry)) ⌝ }
+// The answer to a text, at the start of `out`: its translation, or the line of its refusal. There is no table, no flag is set, and
+// no look-up is allowed. What stands behind the answer stays.
+pub fn answer(text: &[u8], out: &mut [u8; 65535]) -> usize
+    ensures length { λ r. ⌜ r ≡ length (answerTo (now (text .entry))) ⌝ }
+    ensures buffer { λ r. ⌜ now (out .exit) ≡ answerTo (now (text .entry)) ++ drop r (now (out .entry)) ⌝ }
 {
-    let translated = gs::translate(text, &text[0..0], Flags::none(), 0, out);
+    let no_table = &text[0..0];
+    let translated = gs::translate(text, no_table, Flags::none(), 0, out);
     match translated {
         Translated::Written {
             end: _,
@@ -40,9 +40,9 @@ fn answer(text: &[u8], out: &mut [u8]) -> usize
         } => lines::refusal(number, at.0, out),
         Translated::BadTable {
             number,
-            at,
+            at: record,
             free: _,
-        } => lines::refusal(number, at.0, out),
+        } => lines::refusal(number, record.0, out),
     }
 }
 
@@ -70,21 +70,17 @@ fn send(whole: bool, answer: &[u8]) {
     }
 }
 
-fn pass(input: &mut [u8], out: &mut [u8]) -> Lengths
-    requires { ⌜ length (now out) ≡ longest ⌝ }
-    ensures { λ r. ⌜ Answered (now (input .exit)) (r .text) (now (out .exit)) (r .answer) ⌝ }
+// Reads standard input and writes its answer to standard output. What `input` has no room for is not read: a text that
+// fills it is too long already. What is read and written this contract does not determine, as none can (docs/GAPS.md): it says
+// that `out` holds what `answer` makes of the start of `input`.
+pub fn run(input: &mut [u8; 65536], out: &mut [u8; 65535]) -> Lengths
+    ensures { λ r. ⌜ Answered (now (input .exit)) (r .text) (now (out .entry)) (now (out .exit)) (r .answer) ⌝ }
 {
     let text = io::read_full(STDIN_FILENO, input);
-    let answer = answer(&input[..text], out);
-    send(text == 65536, &out[..answer]);
+    // an array that is lent is lent on in part by way of a slice
+    let read: &[u8] = input;
+    let answer = answer(&read[..text], out);
+    let written: &[u8] = out;
+    send(text == 65536, &written[..answer]);
     Lengths { text, answer }
-}
-
-// Reads standard input and writes its answer to standard output. What `input` has no room for is not read: a text that
-// fills it is too long already. No contract can say what was read and written; this one says that `out` holds the answer to
-// what `input` holds.
-pub fn run(input: &mut [u8; 65536], out: &mut [u8; 65535]) -> Lengths
-    ensures { λ r. ⌜ Answered (now (input .exit)) (r .text) (now (out .exit)) (r .answer) ⌝ }
-{
-    pass(input, out)
 }

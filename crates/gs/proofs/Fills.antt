@@ -7,13 +7,13 @@ use native.Mathlib.Omega.{arith}
 use lib.ListN.{length, drop}
 use lib.Seq.{sets-eq}
 use Rattle.paper.specs.Refusals.{no-room}
-use Rattle.paper.specs.Traces.{Trace, bytes, finished, stopped, run, fit, answer}
+use Rattle.paper.specs.Traces.{Trace, bytes, finished, refused, run, fit, answer}
 use Rattle.paper.proofs.Choice.{clash, below, not-below, other}
-use Rattle.paper.proofs.DemandThree.{stopped-number}
+use Rattle.paper.proofs.DemandThree.{refused-number}
 use Rattle.gs.specs.Translations.{refusedAt, translatedBy}
-use Rattle.gs.specs.Steps.{Read, reached, broken}
+use Rattle.gs.specs.inner.Steps.{Read, read-ended, read-refused}
 use Rattle.gs.specs.declared.expansion.Expanded.{Expanded}
-use Rattle.gs.specs.declared.expansion.Expanded.the-variants.{Ended, Halted}
+use Rattle.gs.specs.declared.expansion.Expanded.the-variants.{Ended, Refused}
 use Rattle.gs.specs.declared.Translated.the-variants.{Written}
 
 -- nothing that was lent and came back is nothing before the rest
@@ -23,37 +23,37 @@ nothing-lent (x ∷ xs) out e = absurd (omega arith)
 
 module _ (t : Trace) (size left : ℕ) (lent after : List ℕ) where
   pub measured-long : (r : Expanded) → Read t size left 0 lent after r → length after ≡ length lent
-  measured-long r (reached end left′ runs small laid) = laid .long
-  measured-long r (broken number place long runs) = long
+  measured-long r (read-ended end left′ runs small laid) = laid .long
+  measured-long r (read-refused number place long runs) = long
 
-  pub measured-end : (r : Expanded) (end at left′ : ℕ) → Read t size left 0 lent after r → r ≡ Ended end at left′
-      → (run t left ≡ finished end left′) × (at ≡ length (bytes t))
-  measured-end r end at left′ (reached e l runs small laid) h =
+  pub measured-end : (r : Expanded) (end to left′ : ℕ) → Read t size left 0 lent after r → r ≡ Ended end to left′
+      → (run t left ≡ finished end left′) × (to ≡ length (bytes t))
+  measured-end r end to left′ (read-ended e l runs small laid) h =
       let same-end : e ≡ end = cc in
       let same-left : l ≡ left′ = cc in
-      let same-at : 0 + length (bytes t) ≡ at = cc in
-      (runs ∙ ap₂ finished same-end same-left, sym same-at ∙ zero-add (length (bytes t)))
-  measured-end r end at left′ (broken number place long runs) h = clash (cc)
+      let same-to : 0 + length (bytes t) ≡ to = cc in
+      (runs ∙ ap₂ finished same-end same-left, sym same-to ∙ zero-add (length (bytes t)))
+  measured-end r end to left′ (read-refused number place long runs) h = clash (cc)
 
-  pub measured-halt : (r : Expanded) (number place : ℕ) → Read t size left 0 lent after r → r ≡ Halted number place → run t left ≡ stopped number place
-  measured-halt r number place (reached e l runs small laid) h = clash (cc)
-  measured-halt r number place (broken n p long runs) h =
+  pub measured-refused : (r : Expanded) (number place : ℕ) → Read t size left 0 lent after r → r ≡ Refused number place → run t left ≡ refused number place
+  measured-refused r number place (read-ended e l runs small laid) h = clash (cc)
+  measured-refused r number place (read-refused n p long runs) h =
       let same-number : n ≡ number = cc in
       let same-place : p ≡ place = cc in
-      runs ∙ ap₂ stopped same-number same-place
+      runs ∙ ap₂ refused same-number same-place
 
   -- the writing pass goes where the measuring one went, and all of it fits
   pub written : (r : Expanded) (end left′ : ℕ) → Read t size left 0 lent after r → run t left ≡ finished end left′ → length (bytes t) ≤ length lent
       → after ≡ bytes t ++ drop (length (bytes t)) lent
-  written r end left′ (reached e l runs small laid) f fits =
+  written r end left′ (read-ended e l runs small laid) f fits =
       let here : 0 + length (bytes t) ≤ length lent = omega arith in
       laid .fits here ∙ sets-eq (bytes t) lent 0 here ∙ ap (λ n. bytes t ++ drop n lent) (zero-add (length (bytes t)))
-  written r end left′ (broken number place long runs) f fits = clash (cc)
+  written r end left′ (read-refused number place long runs) f fits = clash (cc)
 
 module _ (t : Trace) (left : ℕ) where
-  pub halted-answer : (number place room : ℕ) → run t left ≡ stopped number place → refusedAt number place 0 room ≡ translatedBy (answer t left room)
-  halted-answer number place room e =
-      other number 0 _ _ (λ z. absurd (omega (arith, stopped-number t left number place e .0))) refl
+  pub refused-answer : (number place room : ℕ) → run t left ≡ refused number place → refusedAt number place 0 room ≡ translatedBy (answer t left room)
+  refused-answer number place room e =
+      other number 0 _ _ (λ z. absurd (omega (arith, refused-number t left number place e .0))) refl
       ∙ ap (λ r. translatedBy (fit r (length (bytes t)) room)) (sym e)
 
   module _ (end left′ room : ℕ) (e : run t left ≡ finished end left′) where

@@ -4,85 +4,86 @@ use mathlib.Core.List.{List, [], _∷_}
 use Prim.Native.Nat.{ℕ, suc, _+_, _-_, _≤_}
 use native.Mathlib.Omega.{arith}
 use lib.ListN.{length}
-use Rattle.paper.specs.Traces.{asks, spends, bytes, run, behind}
+use Rattle.paper.specs.Traces.{asks, spends, bytes, run, onward}
 use Rattle.variables.specs.Names.{Meaning, pattern}
-use Rattle.gs.specs.Readings.{Expand, givesAll, decimalOf, whole, expands}
-use Rattle.gs.specs.Steps.{Laid, Came, went, halted, Read, reached, broken, partOf, pieceOf, behindAt}
+use Rattle.numbers.specs.Calls.{decimalOf}
+use Rattle.gs.specs.Readings.{Expand, givesAll, wholeText, expands}
+use Rattle.gs.specs.inner.Steps.{Laid, Came, came-going, came-refused, Read, read-ended, read-refused, partOf, pieceOf, progressOf}
 use Rattle.gs.specs.declared.expansion.Referred.{Referred}
 use Rattle.gs.specs.declared.expansion.Referred.the-variants.{Number, TooBig, Unknown, Text, Integer, Macro}
 use Rattle.gs.specs.declared.expansion.Progress.{Progress}
-use Rattle.gs.specs.declared.expansion.Progress.the-variants.{Going, Stopped}
+use Rattle.gs.specs.declared.expansion.Progress.the-variants.{Going, Refused}
 use Rattle.gs.specs.declared.expansion.Expanded.{Expanded}
 use Rattle.variables.specs.declared.Variable.{Variable}
 
-module _ (table : List ℕ) (referred : Referred) (name : List ℕ) (left place at : ℕ) (out : List ℕ) where
+module _ (table : List ℕ) (referred : Referred) (name : List ℕ) (left place to : ℕ) (out : List ℕ) where
   module _ (expand : Expand) where
     abbrev Gives : List ℕ → Progress → Type 0
-    Gives after r = Came (pieceOf table expand referred name place) left at out after r
+    Gives after r = Came (pieceOf table expand referred name place) left to out after r
 
-    number-from : (b : ℕ) (after : List ℕ) → Laid out at (b ∷ []) after → Came (pieceOf table expand (Number b) name place) left at out after (Going (at + 1) left)
+    number-from : (b : ℕ) (after : List ℕ) → Laid out to (b ∷ []) after → Came (pieceOf table expand (Number b) name place) left to out after (Going (to + 1) left)
     unfolding pieceOf
-    number-from b after laid = went left (b ∷ []) (record { runs = λ rest. refl; gives = λ rest. refl; small = omega arith }) laid
+    number-from b after laid = came-going left (b ∷ []) (record { runs = λ rest. refl; gives = λ rest. refl; small = omega arith }) laid
 
-    pub number-gives : (b : ℕ) (after : List ℕ) → referred ≡ Number b → Laid out at (b ∷ []) after → Gives after (Going (at + 1) left)
+    pub number-gives : (b : ℕ) (after : List ℕ) → referred ≡ Number b → Laid out to (b ∷ []) after → Gives after (Going (to + 1) left)
     number-gives b after e laid =
-        subst (λ r. Came (pieceOf table expand r name place) left at out after (Going (at + 1) left)) (sym e) (number-from b after laid)
+        subst (λ r. Came (pieceOf table expand r name place) left to out after (Going (to + 1) left)) (sym e) (number-from b after laid)
 
-    too-big-from : Came (pieceOf table expand TooBig name place) left at out out (Stopped 4 place)
+    too-big-from : Came (pieceOf table expand TooBig name place) left to out out (Refused 4 place)
     unfolding pieceOf
-    too-big-from = halted 4 place refl (λ rest. refl)
+    too-big-from = came-refused 4 place refl (λ rest. refl)
 
-    pub too-big-gives : (r : Progress) → referred ≡ TooBig → r ≡ Stopped 4 place → Gives out r
-    too-big-gives r e s = subst₂ (λ k r. Came (pieceOf table expand k name place) left at out out r) (sym e) (sym s) too-big-from
+    pub too-big-gives : (r : Progress) → referred ≡ TooBig → r ≡ Refused 4 place → Gives out r
+    too-big-gives r e s = subst₂ (λ k r. Came (pieceOf table expand k name place) left to out out r) (sym e) (sym s) too-big-from
 
-    unknown-from : Came (pieceOf table expand Unknown name place) left at out out (Stopped 10 place)
+    unknown-from : Came (pieceOf table expand Unknown name place) left to out out (Refused 10 place)
     unfolding pieceOf
-    unknown-from = halted 10 place refl (λ rest. refl)
+    unknown-from = came-refused 10 place refl (λ rest. refl)
 
-    pub unknown-gives : (r : Progress) → referred ≡ Unknown → r ≡ Stopped 10 place → Gives out r
-    unknown-gives r e s = subst₂ (λ k r. Came (pieceOf table expand k name place) left at out out r) (sym e) (sym s) unknown-from
+    pub unknown-gives : (r : Progress) → referred ≡ Unknown → r ≡ Refused 10 place → Gives out r
+    unknown-gives r e s = subst₂ (λ k r. Came (pieceOf table expand k name place) left to out out r) (sym e) (sym s) unknown-from
 
     text-from : (v : Variable) (after : List ℕ) (r : Progress)
-        → Came (λ rest. asks name (spends place (givesAll (partOf table v) rest))) left at out after r → Came (pieceOf table expand (Text v) name place) left at out after r
+        → Came (λ rest. asks name (spends place (givesAll (partOf table v) rest))) left to out after r → Came (pieceOf table expand (Text v) name place) left to out after r
     unfolding pieceOf
     text-from v after r c = c
 
     pub text-gives : (v : Variable) (value after : List ℕ) (r : Progress) → referred ≡ Text v → value ≡ partOf table v
-        → Came (λ rest. asks name (spends place (givesAll value rest))) left at out after r → Gives after r
+        → Came (λ rest. asks name (spends place (givesAll value rest))) left to out after r → Gives after r
     text-gives v value after r e p c =
-        subst (λ k. Came (pieceOf table expand k name place) left at out after r) (sym e)
-        (text-from v after r (subst (λ bs. Came (λ rest. asks name (spends place (givesAll bs rest))) left at out after r) p c))
+        subst (λ k. Came (pieceOf table expand k name place) left to out after r) (sym e)
+        (text-from v after r (subst (λ bs. Came (λ rest. asks name (spends place (givesAll bs rest))) left to out after r) p c))
 
     integer-from : (v : Variable) (after : List ℕ) (r : Progress)
-        → Came (λ rest. asks name (spends place (givesAll (decimalOf (pattern (partOf table v))) rest))) left at out after r
-        → Came (pieceOf table expand (Integer v) name place) left at out after r
+        → Came (λ rest. asks name (spends place (givesAll (decimalOf (pattern (partOf table v))) rest))) left to out after r
+        → Came (pieceOf table expand (Integer v) name place) left to out after r
     unfolding pieceOf
     integer-from v after r c = c
 
     pub integer-gives : (v : Variable) (value after : List ℕ) (r : Progress) → referred ≡ Integer v → value ≡ partOf table v
-        → Came (λ rest. asks name (spends place (givesAll (decimalOf (pattern value)) rest))) left at out after r → Gives after r
+        → Came (λ rest. asks name (spends place (givesAll (decimalOf (pattern value)) rest))) left to out after r → Gives after r
     integer-gives v value after r e p c =
-        subst (λ k. Came (pieceOf table expand k name place) left at out after r) (sym e)
-        (integer-from v after r (subst (λ bs. Came (λ rest. asks name (spends place (givesAll (decimalOf (pattern bs)) rest))) left at out after r) p c))
+        subst (λ k. Came (pieceOf table expand k name place) left to out after r) (sym e)
+        (integer-from v after r (subst (λ bs. Came (λ rest. asks name (spends place (givesAll (decimalOf (pattern bs)) rest))) left to out after r) p c))
 
   module _ (names : List ℕ → Meaning) (levels : ℕ) (v : Variable) (macro : referred ≡ Macro v) where
     abbrev Came-by : ℕ → ℕ → Referred → List ℕ → Progress → Type 0
-    Came-by levels left k after r = Came (pieceOf table (expands names levels) k name place) left at out after r
+    Came-by levels left k after r = Came (pieceOf table (expands names levels) k name place) left to out after r
 
-    deep-from : Came-by 0 left (Macro v) out (Stopped 11 place)
+    deep-from : Came-by 0 left (Macro v) out (Refused 11 place)
     unfolding pieceOf expands
-    deep-from = halted 11 place refl (λ rest. refl)
+    deep-from = came-refused 11 place refl (λ rest. refl)
 
-    pub too-deep-gives : (r : Progress) → levels ≡ 0 → r ≡ Stopped 11 place → Came-by levels left referred out r
+    pub too-deep-gives : (r : Progress) → levels ≡ 0 → r ≡ Refused 11 place → Came-by levels left referred out r
     too-deep-gives r z s =
         subst (λ k. Came-by levels left k out r) (sym macro)
         (subst₂ (λ l r. Came-by l left (Macro v) out r) (sym z) (sym s) deep-from)
 
-    spent-from : (l : ℕ) → Came-by (suc l) 0 (Macro v) out (Stopped 12 place)
+    spent-from : (l : ℕ) → Came-by (suc l) 0 (Macro v) out (Refused 12 place)
     unfolding pieceOf expands
-    spent-from l = halted 12 place refl (λ rest. refl)
+    spent-from l = came-refused 12 place refl (λ rest. refl)
 
-    pub spent-gives : (r : Progress) → (levels ≡ 0 → ⊥) → left ≡ 0 → r ≡ Stopped 12 place → Came-by levels left referred out r
+    pub spent-gives : (r : Progress) → (levels ≡ 0 → ⊥) → left ≡ 0 → r ≡ Refused 12 place → Came-by levels left referred out r
     spent-gives r n z s =
         let up : suc (levels - 1) ≡ levels = omega arith in
         subst (λ k. Came-by levels left k out r) (sym macro)
@@ -90,23 +91,23 @@ module _ (table : List ℕ) (referred : Referred) (name : List ℕ) (left place 
         (subst₂ (λ f r. Came-by (suc (levels - 1)) f (Macro v) out r) (sym z) (sym s) (spent-from (levels - 1))))
 
     value-from : (l m : ℕ) (after : List ℕ) (came : Expanded) → length (partOf table v) ≤ 255
-        → Read (whole names (expands names l) (partOf table v) 0) (length (partOf table v)) m at out after came
-        → Came-by (suc l) (suc m) (Macro v) after (behindAt came place)
+        → Read (wholeText names (expands names l) (partOf table v) 0) (length (partOf table v)) m to out after came
+        → Came-by (suc l) (suc m) (Macro v) after (progressOf came place)
     unfolding pieceOf expands
-    value-from l m after came short (reached end left′ runs small laid) =
-        went left′ (bytes (whole names (expands names l) (partOf table v) 0))
-        (record { runs = λ rest. ap (λ r. behind r place (run rest)) runs; gives = λ rest. refl; small = omega arith })
+    value-from l m after came short (read-ended end left′ runs small laid) =
+        came-going left′ (bytes (wholeText names (expands names l) (partOf table v) 0))
+        (record { runs = λ rest. ap (λ r. onward r place (run rest)) runs; gives = λ rest. refl; small = omega arith })
         laid
-    value-from l m after came short (broken number inner long runs) =
-        halted number place long (λ rest. ap (λ r. behind r place (run rest)) runs)
+    value-from l m after came short (read-refused number inner long runs) =
+        came-refused number place long (λ rest. ap (λ r. onward r place (run rest)) runs)
 
     pub value-gives : (value after : List ℕ) (came : Expanded) (r : Progress) → (levels ≡ 0 → ⊥) → (left ≡ 0 → ⊥) → value ≡ partOf table v
-        → length value ≤ 255 → Read (whole names (expands names (levels - 1)) value 0) (length value) (left - 1) at out after came
-        → r ≡ behindAt came place → Came-by levels left referred after r
+        → length value ≤ 255 → Read (wholeText names (expands names (levels - 1)) value 0) (length value) (left - 1) to out after came
+        → r ≡ progressOf came place → Came-by levels left referred after r
     value-gives value after came r n f p short read s =
         let up : suc (levels - 1) ≡ levels = omega arith in
         let more : suc (left - 1) ≡ left = omega arith in
-        let inner = subst (λ bs. Read (whole names (expands names (levels - 1)) bs 0) (length bs) (left - 1) at out after came) p read in
+        let inner = subst (λ bs. Read (wholeText names (expands names (levels - 1)) bs 0) (length bs) (left - 1) to out after came) p read in
         subst (λ k. Came-by levels left k after r) (sym macro)
         (subst₂ (λ l f. Came-by l f (Macro v) after r) up more
         (subst (Came-by (suc (levels - 1)) (suc (left - 1)) (Macro v) after) (sym s)

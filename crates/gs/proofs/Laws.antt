@@ -17,7 +17,7 @@ use Rattle.gs.specs.declared.symbols.Mode.the-variants.{Plain, Quoted}
 use Rattle.gs.specs.declared.symbols.Symbol.{Symbol}
 use Rattle.gs.specs.declared.symbols.Symbol.the-variants.{End, Byte}
 use Rattle.gs.specs.Flags.{spaceEnds}
-use Rattle.gs.specs.SymbolSteps.{unmarked, atEnd, other, Ordinary}
+use Rattle.gs.specs.inner.SymbolSteps.{unmarked, atEnd, other, Ordinary}
 use Rattle.gs.specs.Symbols.{punctuation, code, endingSpace, nameRun, active, plainSymbol, quotedOther, symbolAt}
 
 -- a name's byte stands inside the text

@@ -1,10 +1,14 @@
--- The laws that several proofs cite, where each symbol stands, and the pieces of a reading.
+-- The laws that several proofs cite, where each symbol stands, the pieces of a reading, and what holds of every translation.
 pub mod Laws
 pub mod Places
+pub mod Fuel
+pub mod Depths
 pub mod Pieces
 pub mod Walk
 pub mod PlainRuns
 pub mod Follows
 pub mod Fills
-pub mod Limits
 pub mod Orders
+pub mod Meetings
+pub mod Limits
+pub mod Answers

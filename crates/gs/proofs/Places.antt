@@ -1,37 +1,35 @@
--- Where symbols stand: each goes on behind its place and stays inside the text, gives a byte, or has a place in the text.
-use mathlib.Core.Bool.{Bool, true, false, _||_, _&&_, not, and-eq-true-iff}
+-- Where symbols stand: each goes on behind its place and stays inside the text, or has a place in the text.
+use mathlib.Core.Bool.{Bool, true, false, cond, _||_, _&&_, not, and-eq-true-iff}
 use mathlib.Core.List.{List}
 use mathlib.Core.Path.{_≡_, refl, sym, subst, _∙_}
-use Prim.Native.Nat.{ℕ, _+_, _<_, _≤_}
+use Prim.Native.Nat.{ℕ, _+_, _<_, _≤_, max}
 use native.Mathlib.Omega.{arith}
 use borrow.Author.Tests.{ltb-true, leb-false, eqb-true, eqb-false}
 use lib.Dec.{ltb, leb, eqb}
 use lib.ListN.{length, getD, drop}
 use Rattle.paper.specs.Bytes.{spaces, ends}
-use Rattle.paper.specs.Traces.{numberOf}
+use Rattle.paper.specs.Traces.{faultNumber}
 use Rattle.paper.specs.declared.faults.Fault.the-variants.{BadCode}
 use Rattle.paper.proofs.Choice.{either}
 use Rattle.paper.proofs.Spaces.{inside, spaces-within, skipped-within}
 use Rattle.gs.specs.declared.symbols.Mode.{Mode}
 use Rattle.gs.specs.declared.symbols.Mode.the-variants.{Plain, Quoted}
-use Rattle.gs.specs.declared.symbols.Opening.{Opening}
 use Rattle.gs.specs.declared.symbols.Symbol.{Symbol}
-use Rattle.gs.specs.declared.symbols.Symbol.the-variants.{End, Byte, Reference, Bad}
-use Rattle.gs.specs.Flags.{spaceEnds, barPlain, quotePlain}
-use Rattle.gs.specs.SymbolSteps.{atEnd, other}
-use Rattle.gs.specs.Symbols.{code, coded, topped, toppedCode, endingSpace, toppedSymbol, barred, nameRun, referred, closed, active, quotedOther, symbolAt, opened, bad as badly}
+use Rattle.gs.specs.declared.symbols.Symbol.the-variants.{End, Byte, Reference, Faulty}
+use Rattle.gs.specs.Flags.{spaceEnds, barPlain}
+use Rattle.gs.specs.inner.SymbolSteps.{atEnd, other}
+use Rattle.gs.specs.Symbols.{code, coded, toppedCode, endingSpace, toppedSymbol, barred, nameRun, referred, closed, active, quotedOther, symbolAt, quoteOpens, firstAt, modeOf, faulty}
 use Rattle.gs.proofs.Laws.{uncoded, symbol-tested}
 
--- in a text of so many bytes, for a symbol at a place of it
-module _ (size at : ℕ) where
+-- in a text of so many bytes that is read in a mode, for a symbol at a place of it
+module _ (size at quote : ℕ) where
   pub record EndsAt (place : ℕ) : Type 0 where
     pub forward : at ≤ place
     pub within : place ≤ size
 
-  pub record GivesByte (b next : ℕ) : Type 0 where
+  pub record GoesOn (next : ℕ) : Type 0 where
     pub forward : at < next
     pub within : next ≤ size
-    pub byte : b ≤ 255
 
   pub record RefersTo (start end next : ℕ) : Type 0 where
     pub begins : start ≡ at + 1
@@ -39,17 +37,17 @@ module _ (size at : ℕ) where
     pub behind : next ≡ end + 1
     pub within : next ≤ size
 
-  -- 7, 8 or 9
-  pub record FailsAt (number place : ℕ) : Type 0 where
-    pub within : place ≤ size
+  -- 7, 8 or 9, in the text or at its open quote
+  pub record FaultsAt (number place : ℕ) : Type 0 where
+    pub within : place ≤ max size quote
     pub least : 7 ≤ number
     pub most : number ≤ 9
 
   abbrev pub Stands : Symbol → Type 0
   Stands (End place) = EndsAt (place .0)
-  Stands (Byte b next) = GivesByte b next
+  Stands (Byte b next) = GoesOn next
   Stands (Reference start end next) = RefersTo start end next
-  Stands (Bad fault place) = FailsAt (numberOf fault) (place .0)
+  Stands (Faulty fault place) = FaultsAt (faultNumber fault) (place .0)
 
 -- the place of the open quote, 0 for none
 abbrev pub quoteOf : Mode → ℕ
@@ -67,14 +65,11 @@ right-false true b e = cc
 not-zero : (c : ℕ) → ends c ≡ false → 0 < c
 not-zero c e = let n = eqb-false c 0 (left-false (eqb c 0) _ e) in omega arith
 
-topped-byte : (c : ℕ) → c ≤ 255 → topped c ≤ 255
-topped-byte c h = either (λ n. n ≤ 255) (ltb c 128) (λ l. omega (arith, ltb-true c 128 l)) (λ _. h)
-
-module _ (text : List ℕ) (flags : ℕ) (mode : Mode) (at : ℕ) (bytes : (k : ℕ) → getD text k 0 ≤ 255) (a : at ≤ length text) where
+module _ (text : List ℕ) (flags : ℕ) (mode : Mode) (at : ℕ) (a : at ≤ length text) where
   abbrev S : Symbol → Type 0
-  S = Stands (length text) at
+  S = Stands (length text) at (quoteOf mode)
 
-  bad : S (badly BadCode at)
+  bad : S (faulty BadCode at)
   bad = omega arith
 
   coded-stands : S (coded (code (getD text (at + 1) 0)) at (at + 2))
@@ -96,7 +91,7 @@ module _ (text : List ℕ) (flags : ℕ) (mode : Mode) (at : ℕ) (bytes : (k : 
       (λ e.
       let l = leb-false 256 (code c) (right-false (eqb c 33) _ e) in
       let n = uncoded l .0 in
-      omega (arith, inside text (at + 3) (omega arith), topped-byte (code c) (omega arith)))
+      omega (arith, inside text (at + 3) (omega arith)))
 
   topped-stands : S (toppedSymbol text flags mode at)
   unfolding toppedSymbol
@@ -104,7 +99,7 @@ module _ (text : List ℕ) (flags : ℕ) (mode : Mode) (at : ℕ) (bytes : (k : 
       let c = getD text (at + 2) 0 in
       either S (ends c || (endingSpace flags mode c || (eqb c 60 || eqb c 34))) (λ _. bad)
       (λ e. either S (eqb c 124) (λ _. topped-code-stands)
-      (λ _. omega (arith, inside text (at + 2) (not-zero c (left-false (ends c) _ e)), topped-byte c (bytes (at + 2)))))
+      (λ _. omega (arith, inside text (at + 2) (not-zero c (left-false (ends c) _ e)))))
 
   barred-stands : S (barred text flags mode at)
   unfolding barred
@@ -132,7 +127,7 @@ module _ (text : List ℕ) (flags : ℕ) (mode : Mode) (at : ℕ) (bytes : (k : 
       (λ _. either S (ends (getD text end 0)) (λ _. omega arith) (λ _. omega arith))
 
   plain-stands : at < length text → S (Byte (getD text at 0) (at + 1))
-  plain-stands h = omega (arith, bytes at)
+  plain-stands h = omega arith
 
   quoted-stands : at < length text → S (quotedOther text flags at)
   unfolding quotedOther
@@ -155,27 +150,28 @@ module _ (text : List ℕ) (flags : ℕ) (mode : Mode) (at : ℕ) (bytes : (k : 
   other-stands Plain h = plain-stands h
   other-stands (Quoted quote) h = quoted-stands h
 
-  end-stands : (m : Mode) → quoteOf m ≤ length text → S (atEnd m at)
+  end-stands : (m : Mode) → quoteOf m ≤ quoteOf mode → S (atEnd m at)
   end-stands Plain q = omega arith
   end-stands (Quoted quote) q = omega arith
 
-  -- by what the symbol is: `EndsAt`, `GivesByte`, `RefersTo` or `FailsAt`
-  pub symbol-stands : quoteOf mode ≤ length text → {s : Symbol} → symbolAt text flags mode at ≡ s → Stands (length text) at s
-  symbol-stands q e =
+  -- by what the symbol is: `EndsAt`, `GoesOn`, `RefersTo` or `FaultsAt`
+  pub symbol-stands : {s : Symbol} → symbolAt text flags mode at ≡ s → Stands (length text) at (quoteOf mode) s
+  symbol-stands e =
       let c = getD text at 0 in
       subst S (sym (symbol-tested text flags mode at) ∙ e)
-      (either S (ends c) (λ _. end-stands mode q)
+      (either S (ends c) (λ _. end-stands mode (omega arith))
       (λ n. either S (endingSpace flags mode c) (λ _. omega arith)
       (λ _. active-stands _ (other-stands mode (inside text at (not-zero c n))))))
 
 -- the first symbol and an open quote stand inside the text
-pub opened-stands : (text : List ℕ) (flags : ℕ) → (opened text flags .at ≤ length text) × (quoteOf (opened text flags .mode) ≤ length text)
-unfolding opened
-opened-stands text flags =
-    let start = spaces text in
-    let s = spaces-within text in
-    either (λ (o : Opening). (o .at ≤ length text) × (quoteOf (o .mode) ≤ length text)) (eqb (getD text start 0) 34 && not (quotePlain flags))
-    (λ e.
-    let quote = eqb-true (getD text start 0) 34 (and-eq-true-iff (eqb (getD text start 0) 34) _ .0 e .0) in
-    omega (arith, inside text start (omega arith)))
-    (λ _. omega arith)
+pub first-stands : (text : List ℕ) (flags : ℕ) → (firstAt text flags ≤ length text) × (quoteOf (modeOf text flags) ≤ length text)
+unfolding firstAt modeOf
+first-stands text flags = go (quoteOpens text flags) refl
+  where
+    go : (b : Bool) → quoteOpens text flags ≡ b
+        → (cond b (spaces text + 1) (spaces text) ≤ length text) × (quoteOf (cond b (Quoted (record { 0 = spaces text })) Plain) ≤ length text)
+    go true e =
+        let quote = eqb-true (getD text (spaces text) 0) 34 (and-eq-true-iff (eqb (getD text (spaces text) 0) 34) _ .0 e .0) in
+        let h = inside text (spaces text) (omega arith) in
+        (omega (arith, h), omega (arith, h))
+    go false e = (omega (arith, spaces-within text), omega arith)

@@ -16,9 +16,9 @@ use Rattle.gs.specs.declared.symbols.Mode.{Mode}
 use Rattle.gs.specs.declared.symbols.Mode.the-variants.{Plain, Quoted}
 use Rattle.gs.specs.Flags.{spaceEnds}
 use Rattle.gs.specs.Symbols.{endingSpace}
-use Rattle.gs.specs.SymbolSteps.{PlainByte, Stretch, alsoEnds}
-use Rattle.gs.specs.Readings.{Expand, symbolic, following}
-use Rattle.gs.specs.Steps.{Laid}
+use Rattle.gs.specs.inner.SymbolSteps.{PlainByte, Stretch, alsoEnds}
+use Rattle.gs.specs.Readings.{Expand, symbolGives, symbolsFrom}
+use Rattle.gs.specs.inner.Steps.{Laid}
 use Rattle.gs.proofs.Laws.{ordinary-byte}
 use Rattle.gs.proofs.Pieces.{laid-more}
 use Rattle.gs.proofs.Walk.{Walk}
@@ -65,24 +65,24 @@ space-goes-on flags (Quoted quote) c p = refl
 
 module _ (names : List ℕ → Meaning) (expand : Expand) (text : List ℕ) (flags : ℕ) (mode : Mode) (stop : ℕ) where
   abbrev goes-on : ℕ → ℕ → Trace
-  goes-on more here = following names more expand text flags mode here
+  goes-on more here = symbolsFrom names more expand text flags mode here
 
   abbrev plain-to : ℕ → Type 0
   plain-to here = Stretch (alsoEnds (endingSpace flags mode 32)) text here stop
 
   -- how the reading goes on behind a run of some bytes
-  record Behind (count more here : ℕ) : Type 0 where
+  record Past (count more here : ℕ) : Type 0 where
     less : ℕ
     fuel : length text < stop + less
     runs : (rest : ℕ) → run (goes-on more here) rest ≡ run (goes-on less stop) rest
     gives : bytes (goes-on more here) ≡ take count (drop here text) ++ bytes (goes-on less stop)
 
   one-plain : (less here : ℕ) → here < stop → plain-to here → goes-on (suc less) here ≡ gives (getD text here 0) (goes-on less (here + 1))
-  unfolding following symbolic
+  unfolding symbolsFrom symbolGives
   one-plain less here h s =
       let p = s .plain here (omega arith) h in
       let is-byte = ordinary-byte text flags here mode (p .ordinary) (space-goes-on flags mode (getD text here 0) p) in
-      ap (λ s. symbolic names expand text here s (following names less expand text flags mode)) is-byte
+      ap (λ s. symbolGives names expand text here s (symbolsFrom names less expand text flags mode)) is-byte
 
   -- a run from its second byte on
   shorter : (here : ℕ) → here < stop → plain-to here → plain-to (here + 1)
@@ -91,8 +91,8 @@ module _ (names : List ℕ → Meaning) (expand : Expand) (text : List ℕ) (fla
   first-of : (here count : ℕ) → here < length text → take (suc count) (drop here text) ≡ getD text here 0 ∷ take count (drop (here + 1) text)
   first-of here count h = rw (add-one, drop-cons text here 0)
 
-  behind : (count more here : ℕ) → here + count ≡ stop → length text < here + more → plain-to here → Behind count more here
-  behind zero more here e fuel s =
+  past : (count more here : ℕ) → here + count ≡ stop → length text < here + more → plain-to here → Past count more here
+  past zero more here e fuel s =
       let same : here ≡ stop = omega arith in
       record {
         less = more;
@@ -100,11 +100,11 @@ module _ (names : List ℕ → Meaning) (expand : Expand) (text : List ℕ) (fla
         runs = λ rest. ap (λ h. run (goes-on more h) rest) same;
         gives = ap (λ h. bytes (goes-on more h)) same;
       }
-  behind (suc count) zero here e fuel s = absurd (omega (arith, s .inside))
-  behind (suc count) (suc more) here e fuel s =
+  past (suc count) zero here e fuel s = absurd (omega (arith, s .inside))
+  past (suc count) (suc more) here e fuel s =
       let h : here < length text = omega (arith, s .inside) in
       let one : goes-on (suc more) here ≡ gives (getD text here 0) (goes-on more (here + 1)) = one-plain more here (omega arith) s in
-      let b = behind count more (here + 1) (omega arith) (omega arith) (shorter here (omega arith) s) in
+      let b = past count more (here + 1) (omega arith) (omega arith) (shorter here (omega arith) s) in
       record {
         less = b .less;
         fuel = b .fuel;
@@ -115,17 +115,17 @@ module _ (names : List ℕ → Meaning) (expand : Expand) (text : List ℕ) (fla
       }
 
 -- a run of plain bytes, laid, is passed
-module _ (names : List ℕ → Meaning) (expand : Expand) (text : List ℕ) (flags left at : ℕ) (out : List ℕ) (mode : Mode) where
-  pub at-run : (after after′ : List ℕ) (here to rest stop : ℕ) (spacesEnd : Bool)
-      → Walk names expand text flags left at out mode after here to rest
+module _ (names : List ℕ → Meaning) (expand : Expand) (text : List ℕ) (flags left to : ℕ) (out : List ℕ) (mode : Mode) where
+  pub at-run : (after after′ : List ℕ) (here far rest stop : ℕ) (spacesEnd : Bool)
+      → Walk names expand text flags left to out mode after here far rest
       → spacesEnd ≡ endingSpace flags mode 32 → Stretch (alsoEnds spacesEnd) text here stop
-      → Laid after to (take (stop - here) (drop here text)) after′
-      → Walk names expand text flags left at out mode after′ stop (to + (stop - here)) rest
-  at-run after after′ here to rest stop spacesEnd w e s laid =
-      let run-to : Stretch (alsoEnds (endingSpace flags mode 32)) text here stop = subst (λ b. Stretch (alsoEnds b) text here stop) e s in
+      → Laid after far (take (stop - here) (drop here text)) after′
+      → Walk names expand text flags left to out mode after′ stop (far + (stop - here)) rest
+  at-run after after′ here far rest stop spacesEnd w e s laid =
+      let stretch : Stretch (alsoEnds (endingSpace flags mode 32)) text here stop = subst (λ b. Stretch (alsoEnds b) text here stop) e s in
       let piece = take (stop - here) (drop here text) in
       let size : length piece ≡ stop - here = simp (length-take, length-drop) (omega (arith, s .inside)) in
-      let b = behind names expand text flags mode stop (stop - here) (w .more) here (omega (arith, s .forward)) (w .fuel) run-to in
+      let b = past names expand text flags mode stop (stop - here) (w .more) here (omega (arith, s .forward)) (w .fuel) stretch in
       record {
         more = b .less;
         given = w .given ++ piece;
@@ -135,8 +135,8 @@ module _ (names : List ℕ → Meaning) (expand : Expand) (text : List ℕ) (fla
         runs = w .runs ∙ b .runs rest;
         gives =
             w .gives ∙ ap (λ l. w .given ++ l) (b .gives)
-            ∙ sym (append-assoc (w .given) piece (bytes (following names (b .less) expand text flags mode stop)));
+            ∙ sym (append-assoc (w .given) piece (bytes (symbolsFrom names (b .less) expand text flags mode stop)));
         place = omega (arith, w .place, length-append (w .given) piece, size);
-        laid = laid-more out (w .given) piece after after′ at (w .laid) (subst (λ p. Laid after p piece after′) (w .place) laid);
+        laid = laid-more out (w .given) piece after after′ to (w .laid) (subst (λ p. Laid after p piece after′) (w .place) laid);
         small = omega (arith, w .small, length-append (w .given) piece, size, s .forward);
       }

@@ -1,7 +1,6 @@
--- GS strings: flags, symbols, the reading of a text, its translation.
+-- GS strings: flags, symbols, the reading of a text, its translation. What only the contracts of inner functions cite is in `inner`.
 pub mod Flags
 pub mod Symbols
 pub mod Readings
 pub mod Translations
-pub mod SymbolSteps
-pub mod Steps
+pub mod inner

@@ -13,8 +13,7 @@ use Rattle.gs.specs.Flags.{spaceEnds, barPlain, quotePlain}
 use Rattle.gs.specs.declared.symbols.Mode.{Mode}
 use Rattle.gs.specs.declared.symbols.Mode.the-variants.{Plain, Quoted}
 use Rattle.gs.specs.declared.symbols.Symbol.{Symbol}
-use Rattle.gs.specs.declared.symbols.Symbol.the-variants.{End, Byte, Reference, Bad}
-use Rattle.gs.specs.declared.symbols.Opening.{Opening}
+use Rattle.gs.specs.declared.symbols.Symbol.the-variants.{End, Byte, Reference, Faulty}
 
 -- the code behind "|", 256 for none. "@" is 0; letters 1 to 26; "[" "{" 27; "\" 28; "]" "}" 29; "^" "~" 30; "_" "'" 31; "?" 127; "|", "<"
 -- and the quote stand for themselves
@@ -31,12 +30,12 @@ punctuation c =
 unfoldable pub code : ℕ → ℕ
 code c = cond (among 64 90 c) (c - 64) (cond (among 97 122 c) (c - 96) (punctuation c))
 
-abbrev pub bad : Fault → ℕ → Symbol
-bad fault place = Bad fault (record { 0 = place })
+abbrev pub faulty : Fault → ℕ → Symbol
+faulty fault place = Faulty fault (record { 0 = place })
 
 -- what a code makes: its byte, and the place behind it
 unfoldable pub coded : ℕ → ℕ → ℕ → Symbol
-coded value at next = cond (ltb value 256) (Byte value next) (bad BadCode at)
+coded value at next = cond (ltb value 256) (Byte value next) (faulty BadCode at)
 
 -- "|!" sets the top bit of the next character
 abbrev pub topped : ℕ → ℕ
@@ -46,7 +45,7 @@ topped c = cond (ltb c 128) (c + 128) c
 unfoldable pub toppedCode : List ℕ → ℕ → Symbol
 toppedCode text at =
     let c = getD text (at + 3) 0 in
-    cond (eqb c 33 || leb 256 (code c)) (bad BadCode at) (Byte (topped (code c)) (at + 4))
+    cond (eqb c 33 || leb 256 (code c)) (faulty BadCode at) (Byte (topped (code c)) (at + 4))
 
 -- a space that ends the text
 abbrev pub endingSpace : ℕ → Mode → ℕ → Bool
@@ -58,7 +57,7 @@ unfoldable pub toppedSymbol : List ℕ → ℕ → Mode → ℕ → Symbol
 toppedSymbol text flags mode at =
     let c = getD text (at + 2) 0 in
     let inner = toppedCode text at in
-    cond (ends c || (endingSpace flags mode c || (eqb c 60 || eqb c 34))) (bad BadCode at)
+    cond (ends c || (endingSpace flags mode c || (eqb c 60 || eqb c 34))) (faulty BadCode at)
     (cond (eqb c 124) inner (Byte (topped c) (at + 3)))
 
 -- "|" and what is behind it; the place of a fault is the symbol's first "|"
@@ -76,15 +75,15 @@ nameRun (c ∷ cs) = cond (nameByte c) (suc (nameRun cs)) 0
 unfoldable pub referred : List ℕ → ℕ → Symbol
 referred text at =
     let run = nameRun (drop (at + 1) text) in
-    cond (ltb 0 run && eqb (getD text (at + 1 + run) 0) 62) (Reference (at + 1) (at + 1 + run) (at + 2 + run)) (bad BadReference at)
+    cond (ltb 0 run && eqb (getD text (at + 1 + run) 0) 62) (Reference (at + 1) (at + 1 + run) (at + 2 + run)) (faulty BadReference at)
 
 -- behind the closing quote: with bit 29 a space or the end must follow; without it spaces are skipped and the end must follow
 unfoldable pub closed : List ℕ → ℕ → ℕ → Symbol
 closed text flags behind =
     let end = behind + spaces (drop behind text) in
     cond (spaceEnds flags)
-    (cond (ends (getD text behind 0) || eqb (getD text behind 0) 32) (End (record { 0 = behind })) (bad BadString behind))
-    (cond (ends (getD text end 0)) (End (record { 0 = end })) (bad BadString end))
+    (cond (ends (getD text behind 0) || eqb (getD text behind 0) 32) (End (record { 0 = behind })) (faulty BadString behind))
+    (cond (ends (getD text end 0)) (End (record { 0 = end })) (faulty BadString end))
 
 -- a byte that is no symbol of another kind
 abbrev pub plainSymbol : ℕ → ℕ → Symbol
@@ -109,12 +108,16 @@ symbolAt text flags Plain at =
     cond (ends (getD text at 0) || endingSpace flags Plain (getD text at 0)) (End (record { 0 = at })) other
 symbolAt text flags (Quoted quote) at =
     let other = active text flags (Quoted quote) at (quotedOther text flags at) in
-    cond (ends (getD text at 0)) (bad BadString (quote .0)) other
+    cond (ends (getD text at 0)) (faulty BadString (quote .0)) other
 
 -- leading spaces are skipped; a quote standing next opens a quoted string unless bit 31 is set
-unfoldable pub opened : List ℕ → ℕ → Opening
-opened text flags =
-    let start = spaces text in
-    cond (eqb (getD text start 0) 34 && not (quotePlain flags))
-    (record { at = start + 1; mode = Quoted (record { 0 = start }) })
-    (record { at = start; mode = Plain })
+abbrev pub quoteOpens : List ℕ → ℕ → Bool
+quoteOpens text flags = eqb (getD text (spaces text) 0) 34 && not (quotePlain flags)
+
+-- the place of the first symbol
+unfoldable pub firstAt : List ℕ → ℕ → ℕ
+firstAt text flags = cond (quoteOpens text flags) (spaces text + 1) (spaces text)
+
+-- how the text is read
+unfoldable pub modeOf : List ℕ → ℕ → Mode
+modeOf text flags = cond (quoteOpens text flags) (Quoted (record { 0 = spaces text })) Plain

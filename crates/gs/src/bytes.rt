@@ -2,7 +2,7 @@
 ghost use mathlib.Core.Path.{_≡_};
 ghost use Prim.Native.Nat.{_+_};
 ghost use lib.ListN.{drop};
-ghost use Rattle.gs.specs.SymbolSteps.{unmarked, stops, marks};
+ghost use Rattle.gs.specs.inner.SymbolSteps.{unmarked, stops, marks};
 ghost use Rattle.gs.specs.Symbols.{endingSpace, nameRun};
 use crate::flags::Flags;
 use crate::symbols::Mode;

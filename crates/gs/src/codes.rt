@@ -2,13 +2,13 @@
 ghost use mathlib.Core.Path.{_≡_};
 ghost use Prim.Native.Nat.{_≤_};
 ghost use lib.ListN.{length};
-ghost use Rattle.gs.specs.SymbolSteps.{bare};
+ghost use Rattle.gs.specs.inner.SymbolSteps.{bare};
 ghost use Rattle.gs.specs.Symbols.{punctuation, code, coded, topped, toppedCode, toppedSymbol, barred};
 use crate::bytes::is_ending_space;
 use crate::flags::Flags;
 use crate::symbols::Mode;
 use crate::symbols::Symbol;
-use crate::symbols::bad;
+use crate::symbols::faulty;
 use paper::bytes::among;
 use paper::bytes::byte;
 use paper::bytes::is_end;
@@ -49,7 +49,7 @@ fn coded(value: u16, at: usize, next: usize) -> Symbol
     if value < 256 {
         return Symbol::Byte(value as u8, next);
     }
-    bad(Fault::BadCode, at)
+    faulty(Fault::BadCode, at)
 }
 
 fn topped(c: u8) -> u8
@@ -67,7 +67,7 @@ fn topped_code(text: &[u8], at: usize) -> Symbol
     if value < 256 {
         return Symbol::Byte(topped(value as u8), at + 4);
     }
-    bad(Fault::BadCode, at)
+    faulty(Fault::BadCode, at)
 }
 
 // Whether no top bit can be set on a byte.
@@ -84,7 +84,7 @@ fn topped_symbol(text: &[u8], flags: Flags, mode: Mode, at: usize) -> Symbol
 {
     let c = byte(text, at + 2);
     if is_bare(flags, mode, c) {
-        return bad(Fault::BadCode, at);
+        return faulty(Fault::BadCode, at);
     }
     if c == b'|' {
         return topped_code(text, at);

@@ -3,10 +3,10 @@ ghost use mathlib.Core.Path.{_≡_};
 ghost use mathlib.Core.List.{List};
 ghost use Prim.Native.Nat.{ℕ, _+_, _*_, _≤_, _^_};
 ghost use lib.ListN.{length};
-ghost use Rattle.variables.specs.Indexes.{indexOf};
+ghost use Rattle.variables.specs.inner.Keys.{Keys};
 ghost use Rattle.variables.specs.Names.{namesOf};
-ghost use Rattle.gs.specs.Readings.{whole, expands};
-ghost use Rattle.gs.specs.Steps.{Came, Read, pieceOf, lengthIn, behindAt};
+ghost use Rattle.gs.specs.Readings.{wholeText, expands};
+ghost use Rattle.gs.specs.inner.Steps.{Came, Read, pieceOf, lengthIn, progressOf};
 ghost use Rattle.gs.specs.declared.expansion.Expanded.the-variants as Expanded;
 ghost use Rattle.gs.specs.declared.expansion.Progress.the-variants as Progress;
 use crate::bytes::is_ending_space;
@@ -32,34 +32,34 @@ pub enum Referred {
     Macro(Variable),
 }
 
-// How far a reference came: to the place `at` of the output with `left` look-ups, or to a refusal.
+// How far a reference came: to the place `to` of the output with `left` look-ups, or to a refusal.
 pub enum Progress {
-    Going { at: usize, left: u32 },
-    Stopped { number: u8, place: usize },
+    Going { to: usize, left: u32 },
+    Refused { number: u8, place: usize },
 }
 
 // How far a whole text came: to its end, or to a refusal.
 pub enum Expanded {
-    Ended { end: usize, at: usize, left: u32 },
-    Halted { number: u8, place: usize },
+    Ended { end: usize, to: usize, left: u32 },
+    Refused { number: u8, place: usize },
 }
 
-fn stop(number: u8, place: usize) -> Progress
-    ensures { λ r. ⌜ r ≡ Progress.Stopped number place ⌝ }
+fn refused_reference(number: u8, place: usize) -> Progress
+    ensures { λ r. ⌜ r ≡ Progress.Refused number place ⌝ }
 {
-    Progress::Stopped { number, place }
+    Progress::Refused { number, place }
 }
 
-fn ended(end: usize, at: usize, left: u32) -> Expanded
-    ensures { λ r. ⌜ r ≡ Expanded.Ended end at left ⌝ }
+fn ended(end: usize, to: usize, left: u32) -> Expanded
+    ensures { λ r. ⌜ r ≡ Expanded.Ended end to left ⌝ }
 {
-    Expanded::Ended { end, at, left }
+    Expanded::Ended { end, to, left }
 }
 
-fn halted(number: u8, place: usize) -> Expanded
-    ensures { λ r. ⌜ r ≡ Expanded.Halted number place ⌝ }
+fn refused_text(number: u8, place: usize) -> Expanded
+    ensures { λ r. ⌜ r ≡ Expanded.Refused number place ⌝ }
 {
-    Expanded::Halted { number, place }
+    Expanded::Refused { number, place }
 }
 
 // What a reference gives: one number, the bytes of a value for one look-up, or a macro's value as a text of its own, one level
@@ -67,48 +67,48 @@ fn halted(number: u8, place: usize) -> Expanded
 fn follow(
     referred: Referred,
     table: &[u8],
-    index: &[u32],
+    keys: &[u32],
     levels: u8,
     left: u32,
     place: usize,
-    at: usize,
+    to: usize,
     out: &mut [u8],
 ) -> Progress
-    requires { ⌜ (at + 255 * left + 255 ≤ 2 ^ 40) × (lengthIn referred ≤ 255) × (now index ≡ indexOf (now table)) ⌝ }
-    ensures { λ r. ⌜ ((name : List ℕ) → Came (pieceOf (now (table .entry)) (expands (namesOf (now (table .entry))) levels) referred name place) left at (now (out .entry)) (now (out .exit)) r) ⌝ }
+    requires { ⌜ (to + 255 * left + 255 ≤ 2 ^ 40) × (lengthIn referred ≤ 255) × Keys (now table) (now keys) ⌝ }
+    ensures { λ r. ⌜ ((name : List ℕ) → Came (pieceOf (now (table .entry)) (expands (namesOf (now (table .entry))) levels) referred name place) left to (now (out .entry)) (now (out .exit)) r) ⌝ }
 {
     match referred {
         Referred::Number(byte) => {
-            output::put(byte, at, out);
-            Progress::Going { at: at + 1, left }
+            output::put(byte, to, out);
+            Progress::Going { to: to + 1, left }
         }
-        Referred::TooBig => stop(TOO_BIG, place),
-        Referred::Unknown => stop(UNKNOWN_NAME, place),
-        Referred::Text(v) => references::give(variables::value_of(table, v), left, place, at, out),
+        Referred::TooBig => refused_reference(TOO_BIG, place),
+        Referred::Unknown => refused_reference(UNKNOWN_NAME, place),
+        Referred::Text(v) => references::give(variables::value_of(table, v), left, place, to, out),
         Referred::Integer(v) => references::give_integer(
             variables::value_of(table, v),
             left,
             place,
-            at,
+            to,
             out,
         ),
         Referred::Macro(v) => {
             if levels == 0 {
-                return stop(TOO_DEEP, place);
+                return refused_reference(TOO_DEEP, place);
             }
             if left == 0 {
-                return stop(ALLOWANCE_SPENT, place);
+                return refused_reference(ALLOWANCE_SPENT, place);
             }
             let value = variables::value_of(table, v);
-            behind(
+            progress_of(
                 expand(
                     value,
                     table,
-                    index,
+                    keys,
                     Flags::none(),
                     levels - 1,
                     left - 1,
-                    at,
+                    to,
                     out,
                 ),
                 place,
@@ -118,12 +118,12 @@ fn follow(
 }
 
 // How far a reference came whose value came so far: a refusal inside it has the place of its "<".
-fn behind(came: Expanded, place: usize) -> Progress
-    ensures { λ r. ⌜ r ≡ behindAt came place ⌝ }
+fn progress_of(came: Expanded, place: usize) -> Progress
+    ensures { λ r. ⌜ r ≡ progressOf came place ⌝ }
 {
     match came {
-        Expanded::Ended { end: _, at, left } => Progress::Going { at, left },
-        Expanded::Halted { number, place: _ } => stop(number, place),
+        Expanded::Ended { end: _, to, left } => Progress::Going { to, left },
+        Expanded::Refused { number, place: _ } => refused_reference(number, place),
     }
 }
 
@@ -132,47 +132,47 @@ fn behind(came: Expanded, place: usize) -> Progress
 pub(crate) fn expand(
     text: &[u8],
     table: &[u8],
-    index: &[u32],
+    keys: &[u32],
     flags: Flags,
     levels: u8,
     left: u32,
-    at: usize,
+    to: usize,
     out: &mut [u8],
 ) -> Expanded
-    requires { ⌜ (length (now text) ≤ 65535) × (at + length (now text) + 255 * left + 255 ≤ 2 ^ 40) × (now index ≡ indexOf (now table)) ⌝ }
-    ensures { λ r. ⌜ Read (whole (namesOf (now (table .entry))) (expands (namesOf (now (table .entry))) levels) (now (text .entry)) (flags .0)) (length (now (text .entry))) left at (now (out .entry)) (now (out .exit)) r ⌝ }
+    requires { ⌜ (length (now text) ≤ 65535) × (to + length (now text) + 255 * left + 255 ≤ 2 ^ 40) × Keys (now table) (now keys) ⌝ }
+    ensures { λ r. ⌜ Read (wholeText (namesOf (now (table .entry))) (expands (namesOf (now (table .entry))) levels) (now (text .entry)) (flags .0)) (length (now (text .entry))) left to (now (out .entry)) (now (out .exit)) r ⌝ }
 {
     let first = symbols::open(text, flags);
     let mode = first.mode;
     let mut here = first.at;
-    let mut to = at;
+    let mut far = to;
     let mut rest = left;
     let spaces_end = is_ending_space(flags, mode, b' ');
     loop {
         // Bytes that stand for themselves go over as one run; the symbol behind them is the next that needs a thought.
         let run_end = runs::plain_end(text, here, spaces_end);
-        output::copy(&text[here..run_end], to, out);
-        to += run_end - here;
+        output::copy(&text[here..run_end], far, out);
+        far += run_end - here;
         here = run_end;
         let symbol = symbols::symbol_at(text, flags, mode, here);
         match symbol {
-            Symbol::End(end) => return ended(end.0, to, rest),
-            Symbol::Bad { fault, at: place } => return halted(fault.number(), place.0),
+            Symbol::End(end) => return ended(end.0, far, rest),
+            Symbol::Faulty { fault, at: place } => return refused_text(fault.number(), place.0),
             Symbol::Byte(byte, next) => {
-                output::put(byte, to, out);
-                to += 1;
+                output::put(byte, far, out);
+                far += 1;
                 here = next;
             }
             Symbol::Reference { start, end, next } => {
-                let referred = references::resolve(&text[start..end], table, index);
-                let came = follow(referred, table, index, levels, rest, here, to, out);
+                let referred = references::resolve(&text[start..end], table, keys);
+                let came = follow(referred, table, keys, levels, rest, here, far, out);
                 match came {
-                    Progress::Going { at: a, left: l } => {
-                        to = a;
+                    Progress::Going { to: t, left: l } => {
+                        far = t;
                         rest = l;
                         here = next;
                     }
-                    Progress::Stopped { number, place } => return halted(number, place),
+                    Progress::Refused { number, place } => return refused_text(number, place),
                 }
             }
         }

@@ -3,7 +3,7 @@ ghost use mathlib.Core.Path.{_≡_};
 ghost use Prim.Native.Nat.{_≤_};
 ghost use lib.ListN.{length};
 ghost use Rattle.paper.specs.Traces.{bytes, answer};
-ghost use Rattle.variables.specs.Indexes.{indexOf};
+ghost use Rattle.variables.specs.inner.Keys.{Keys};
 ghost use Rattle.gs.specs.Translations.{readingOf, refusedAt, translatedBy, leftBy, translated, outAfter};
 
 mod bytes;
@@ -65,28 +65,28 @@ fn refused(number: u8, place: usize, need: usize, free: usize) -> Translated
 fn fill(
     text: &[u8],
     table: &[u8],
-    index: &[u32],
+    keys: &[u32],
     flags: Flags,
     left: u32,
     out: &mut [u8],
 ) -> Translated
-    requires { ⌜ (length (now text) ≤ 65535) × (left ≤ 1024) × (now index ≡ indexOf (now table)) ⌝ }
+    requires { ⌜ (length (now text) ≤ 65535) × (left ≤ 1024) × Keys (now table) (now keys) ⌝ }
     ensures answer { λ r. ⌜ r ≡ translatedBy (answer (readingOf (now (text .entry)) (now (table .entry)) (flags .0)) left (length (now (out .entry)))) ⌝ }
     ensures buffer { λ r. ⌜ now (out .exit) ≡ leftBy r (bytes (readingOf (now (text .entry)) (now (table .entry)) (flags .0))) (now (out .entry)) ⌝ }
 {
     let room = out.len();
-    let measured = expansion::expand(text, table, index, flags, LEVELS, left, 0, &mut out[0..0]);
+    let measured = expansion::expand(text, table, keys, flags, LEVELS, left, 0, &mut out[0..0]);
     match measured {
-        Expanded::Halted { number, place } => refused(number, place, 0, room),
-        Expanded::Ended { end, at, left: _ } => {
-            if room < at {
-                return refused(NO_ROOM, 0, at, room);
+        Expanded::Refused { number, place } => refused(number, place, 0, room),
+        Expanded::Ended { end, to, left: _ } => {
+            if room < to {
+                return refused(NO_ROOM, 0, to, room);
             }
-            expansion::expand(text, table, index, flags, LEVELS, left, 0, out);
+            expansion::expand(text, table, keys, flags, LEVELS, left, 0, out);
             Translated::Written {
                 end: TextPlace(end),
-                need: at,
-                free: room - at,
+                need: to,
+                free: room - to,
             }
         }
     }
@@ -107,14 +107,15 @@ pub fn translate(
     if LONGEST < text.len() {
         return refused(OVER_LENGTH, 0, 0, room);
     }
-    let mut index = [0u32; 256];
-    let checked = variables::index_table(table, &mut index);
+    let keyed = variables::key_table(table);
+    let checked = keyed.checked;
+    let keys = keyed.keys;
     match checked {
-        Checked::Refused { number, at } => Translated::BadTable {
+        Checked::BadTable { number, at } => Translated::BadTable {
             number,
             at,
             free: room,
         },
-        Checked::Good(count) => fill(text, table, &index[0..count], flags, cap(allowance), out),
+        Checked::Good(count) => fill(text, table, &keys[0..count], flags, cap(allowance), out),
     }
 }

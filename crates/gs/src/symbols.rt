@@ -2,8 +2,8 @@
 ghost use mathlib.Core.Path.{_≡_};
 ghost use Prim.Native.Nat.{_≤_};
 ghost use lib.ListN.{length};
-ghost use Rattle.gs.specs.SymbolSteps.{endedAt, atEnd, other};
-ghost use Rattle.gs.specs.Symbols.{bad, referred, closed, quotedOther, symbolAt, opened};
+ghost use Rattle.gs.specs.inner.SymbolSteps.{endedAt, atEnd, other};
+ghost use Rattle.gs.specs.Symbols.{faulty, referred, closed, quotedOther, symbolAt, firstAt, modeOf};
 use crate::bytes::is_ending_space;
 use crate::bytes::is_mark;
 use crate::bytes::is_stop;
@@ -35,7 +35,7 @@ pub enum Symbol {
         next: usize,
     },
     // What is wrong, and its place.
-    Bad {
+    Faulty {
         fault: Fault,
         at: TextPlace,
     },
@@ -47,10 +47,10 @@ pub struct Opening {
     pub mode: Mode,
 }
 
-pub(crate) fn bad(fault: Fault, at: usize) -> Symbol
-    ensures { λ r. ⌜ r ≡ bad fault at ⌝ }
+pub(crate) fn faulty(fault: Fault, at: usize) -> Symbol
+    ensures { λ r. ⌜ r ≡ faulty fault at ⌝ }
 {
-    Symbol::Bad {
+    Symbol::Faulty {
         fault,
         at: TextPlace(at),
     }
@@ -64,7 +64,7 @@ fn referred(text: &[u8], at: usize) -> Symbol
     let start = at + 1;
     let end = skip_name(text, start);
     if end == start {
-        return bad(Fault::BadReference, at);
+        return faulty(Fault::BadReference, at);
     }
     if byte(text, end) == b'>' {
         return Symbol::Reference {
@@ -73,7 +73,7 @@ fn referred(text: &[u8], at: usize) -> Symbol
             next: end + 1,
         };
     }
-    bad(Fault::BadReference, at)
+    faulty(Fault::BadReference, at)
 }
 
 // The end of a quoted string at a place, or the fault of one that goes on there.
@@ -83,7 +83,7 @@ fn ended(ends: bool, at: usize) -> Symbol
     if ends {
         Symbol::End(TextPlace(at))
     } else {
-        bad(Fault::BadString, at)
+        faulty(Fault::BadString, at)
     }
 }
 
@@ -119,7 +119,7 @@ fn at_end(mode: Mode, at: usize) -> Symbol
 {
     match mode {
         Mode::Plain => Symbol::End(TextPlace(at)),
-        Mode::Quoted(quote) => bad(Fault::BadString, quote.0),
+        Mode::Quoted(quote) => faulty(Fault::BadString, quote.0),
     }
 }
 
@@ -159,7 +159,7 @@ pub(crate) fn symbol_at(text: &[u8], flags: Flags, mode: Mode, at: usize) -> Sym
 
 // Leading spaces are skipped. A quote next opens a quoted string, unless a flag makes it ordinary.
 pub(crate) fn open(text: &[u8], flags: Flags) -> Opening
-    ensures { λ r. ⌜ r ≡ opened (now (text .entry)) (flags .0) ⌝ }
+    ensures { λ r. ⌜ (r .at ≡ firstAt (now (text .entry)) (flags .0)) × (r .mode ≡ modeOf (now (text .entry)) (flags .0)) ⌝ }
 {
     let start = skip_spaces(text, 0);
     if is_mark(b'"', flags, Flags::QUOTE_PLAIN, byte(text, start)) {

@@ -4,9 +4,9 @@ ghost use mathlib.Core.Bool.{not};
 ghost use Prim.Native.Nat.{_≤_};
 ghost use lib.Dec.{eqb};
 ghost use lib.ListN.{length};
-ghost use Rattle.numbers.specs.Calls.{answerOf, bufferOf};
+ghost use Rattle.numbers.specs.Calls.{answerOf, bufferOf, convertedBy};
 ghost use Rattle.reader.specs.Reading.{reading};
-ghost use Rattle.variables.specs.Tables.{checked, lookedUp};
+ghost use Rattle.variables.specs.Tables.{kindNumber, checked, lookedUp};
 ghost use Rattle.gs.specs.Translations.{translated, outAfter};
 ghost use Rattle.expressions.specs.Answers.{evaluated};
 ghost use Rattle.nosgoludd.specs.Packed.{packed, packedConversion, packedReading, packedCheck, packedFound, packedTranslation, packedEvaluation};
@@ -18,6 +18,7 @@ use paper::UNKNOWN_NAME;
 use reader::Reading;
 use variables::Checked;
 use variables::Found;
+use variables::kinds::Kind;
 
 // What a place is counted in.
 const IN_THE_TEXT: u64 = 0;
@@ -35,7 +36,7 @@ fn pack(number: u8, counted: u64, place: usize, high: usize) -> u64
 
 #[no_mangle]
 pub extern "C" fn nos_convert(call: u32, value: u32, buf: &mut [u8]) -> u64
-    ensures answer { λ r. ⌜ r ≡ packedConversion (answerOf call value (length (now (buf .entry)))) ⌝ }
+    ensures answer { λ r. ⌜ r ≡ packedConversion (convertedBy (answerOf call value (length (now (buf .entry))))) ⌝ }
     ensures buffer { λ r. ⌜ now (buf .exit) ≡ bufferOf call value (now (buf .entry)) ⌝ }
 {
     let answer = numbers::convert(call, value, buf);
@@ -75,8 +76,15 @@ pub extern "C" fn nos_check_table(table: &[u8]) -> u64
     let answer = variables::check_table(table);
     match answer {
         Checked::Good(count) => pack(0, IN_THE_TABLE, 0, count),
-        Checked::Refused { number, at } => pack(number, IN_THE_TABLE, at.0, 0),
+        Checked::BadTable { number, at } => pack(number, IN_THE_TABLE, at.0, 0),
     }
+}
+
+// A kind as the high half of an answer.
+fn kind_number(kind: Kind) -> usize
+    ensures { λ r. ⌜ (r ≡ kindNumber kind) × (r ≤ 255) ⌝ }
+{
+    kind.number() as usize
 }
 
 #[no_mangle]
@@ -87,10 +95,11 @@ pub extern "C" fn nos_look_up(table: &[u8], name: &[u8]) -> u64
     match answer {
         Found::At(v) => {
             let at = v.at;
-            pack(0, IN_THE_TABLE, at.0, v.kind as usize)
+            let kind = v.kind;
+            pack(0, IN_THE_TABLE, at.0, kind_number(kind))
         }
-        Found::Nothing => pack(UNKNOWN_NAME, IN_THE_TABLE, 0, 0),
-        Found::Unsound { number, at } => pack(number, IN_THE_TABLE, at.0, 0),
+        Found::Unknown => pack(UNKNOWN_NAME, IN_THE_TABLE, 0, 0),
+        Found::BadTable { number, at } => pack(number, IN_THE_TABLE, at.0, 0),
     }
 }
 

@@ -2,7 +2,7 @@
 ghost use mathlib.Core.Path.{_≡_};
 ghost use mathlib.Core.Bool.{true, cond};
 ghost use mathlib.Core.List.{_++_};
-ghost use Prim.Native.Nat.{_-_, _^_, _≤_};
+ghost use Prim.Native.Nat.{_≤_};
 ghost use lib.ListN.{length, drop, set};
 ghost use Rattle.paper.specs.Layings.{laying, laidIn};
 ghost use Rattle.numbers.specs.Digits.{digitCount};

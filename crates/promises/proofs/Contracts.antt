@@ -1,45 +1,20 @@
--- What is promised of is what the contracts say: whatever a caller learns of a call is what `Allowed` has.
-use mathlib.Core.List.{List}
-use Prim.Native.Nat.{ℕ}
-use mathlib.Core.Bool.{Bool}
-use contract.Lifetimes.{Lfts}
-use denote.Ref.{RefT, now}
-use Rattle.numbers.proofs.convert.Reads as convert
-use Rattle.numbers.specs.declared.Converted.{Converted}
-use Rattle.reader.proofs.read_unsigned.Reads as read-unsigned
-use Rattle.reader.specs.declared.Reading.{Reading}
-use Rattle.variables.proofs.check_table.Reads as check-table
-use Rattle.variables.proofs.look_up.Reads as look-up
-use Rattle.variables.specs.declared.Checked.{Checked}
-use Rattle.variables.specs.declared.Found.{Found}
-use Rattle.gs.proofs.translate.Reads as translate
-use Rattle.gs.specs.declared.Translated.{Translated}
-use Rattle.gs.specs.declared.flags.Flags.{Flags}
-use Rattle.expressions.proofs.evaluate.Reads as evaluate
-use Rattle.expressions.specs.declared.Evaluated.{Evaluated}
-use Rattle.promises.specs.Allowed.{Converts, Reads, Checks, LooksUp, Translates, Evaluates}
+-- What is promised of is what the contracts say.
+use Rattle.promises.specs.Ties.{Convert, ReadUnsigned, CheckTable, LookUp, Translate, Evaluate}
 
-pub convert-allows : (κs : Lfts 1) (call value : ℕ) (buf after : RefT (List ℕ)) (r : Converted)
-    → convert.Learnt κs (call, (value, (buf, tt))) r (call, (value, (after, tt))) → Converts call value (now buf) r (now after)
-convert-allows κs call value buf after r learnt = record { answer = learnt .0; buffer = learnt .1 }
+pub convert : Convert
+convert κs call value buf after r learnt = record { answer = learnt .0; buffer = learnt .1 }
 
-pub read-unsigned-allows : (κs : Lfts 1) (text : RefT (List ℕ)) (whole : Bool) (limit : ℕ) (r : Reading)
-    → read-unsigned.Learnt κs (text, (whole, (limit, tt))) r (text, (whole, (limit, tt))) → Reads (now text) whole limit r
-read-unsigned-allows κs text whole limit r learnt = record { answer = learnt }
+pub read-unsigned : ReadUnsigned
+read-unsigned κs text whole limit r learnt = record { answer = learnt }
 
-pub check-table-allows : (κs : Lfts 1) (table : RefT (List ℕ)) (r : Checked)
-    → check-table.Learnt κs (table, tt) r (table, tt) → Checks (now table) r
-check-table-allows κs table r learnt = record { answer = learnt }
+pub check-table : CheckTable
+check-table κs table r learnt = record { answer = learnt }
 
-pub look-up-allows : (κs : Lfts 2) (table name : RefT (List ℕ)) (r : Found)
-    → look-up.Learnt κs (table, (name, tt)) r (table, (name, tt)) → LooksUp (now table) (now name) r
-look-up-allows κs table name r learnt = record { answer = learnt }
+pub look-up : LookUp
+look-up κs table name r learnt = record { answer = learnt }
 
-pub translate-allows : (κs : Lfts 3) (text table : RefT (List ℕ)) (flags : Flags) (allowance : ℕ) (out after : RefT (List ℕ)) (r : Translated)
-    → translate.Learnt κs (text, (table, (flags, (allowance, (out, tt))))) r (text, (table, (flags, (allowance, (after, tt)))))
-    → Translates (now text) (now table) (flags .0) allowance (now out) r (now after)
-translate-allows κs text table flags allowance out after r learnt = record { answer = learnt .0; buffer = learnt .1 }
+pub translate : Translate
+translate κs text table flags allowance out after r learnt = record { answer = learnt .0; buffer = learnt .1 }
 
-pub evaluate-allows : (κs : Lfts 2) (text table : RefT (List ℕ)) (allowance : ℕ) (r : Evaluated)
-    → evaluate.Learnt κs (text, (table, (allowance, tt))) r (text, (table, (allowance, tt))) → Evaluates (now text) (now table) allowance r
-evaluate-allows κs text table allowance r learnt = record { answer = learnt }
+pub evaluate : Evaluate
+evaluate κs text table allowance r learnt = record { answer = learnt }

@@ -16,8 +16,9 @@ use Rattle.numbers.specs.declared.Converted.{Converted}
 use Rattle.numbers.specs.declared.forms.Base.{Base}
 use Rattle.numbers.specs.declared.forms.Base.the-variants.{Two, Ten, Sixteen}
 use Rattle.numbers.proofs.Bounds.{string-short}
-use Rattle.reader.specs.Reading.{no-limit, reading, valued, lead, readNumber, readPlace, readValue}
-use Rattle.reader.proofs.ReadBack.{read-back}
+use Rattle.reader.specs.Reading.{no-limit, reading, valued, readNumber, readPlace, readValue}
+use Rattle.promises.specs.Leads.{lead}
+use Rattle.promises.proofs.ReadBack.{read-back}
 use Rattle.promises.specs.Conversions.{OneAnswer, needed, Refuses, Refusals, Tells, Exact, OffsetAndFree, Bytes, ReadAs, ReadsBack, LargerRoom, SecondAsk}
 use Rattle.promises.proofs.Outcomes.{Outcome, refuses, lays, one-form, not-both, outcome}
 
@@ -125,22 +126,20 @@ reads-back call value form buf after r e unsigned unspaced c accepted option ans
     ∙ ap (λ n. valued (used form value) (length (lead (form .base)) + n)) (sym (w .0)) in
     record { number = ap readNumber is; value = ap readValue is; place = ap readPlace is }
 
+module _ (call value more : ℕ) (buf buf′ : List ℕ) (longer : length buf′ ≡ length buf + more) where
+  grown : (a a′ : Answer) (after after′ : List ℕ) → Outcome call value buf a after → Outcome call value buf′ a′ after′ → (a .number ≡ no-room → ⊥)
+      → GrownWhole after buf′ after′ more a a′
+  grown a a′ after after′ (refuses k) (refuses k′) m =
+      record { answer = record { number = refl; counted = refl; place = refl; need = refl; free = longer }; written = refl; behind = refl }
+  grown a a′ after after′ (refuses k) (lays g k′ o) m = absurd (not-both call g k k′)
+  grown a a′ after after′ (lays f k o) (refuses k′) m = absurd (not-both call f k′ k)
+  grown a a′ after after′ (lays f k o) (lays g k′ o′) m =
+      grows-by (string f value) (f .terminated) more buf buf′ longer a a′ after after′ o
+      (subst (λ h. Laid.Outcome (string h value) (h .terminated) buf′ a′ after′) (one-form call g f k′ k) o′) m
+
 pub larger-room : LargerRoom
-larger-room call value more buf after buf′ after′ r r′ longer c c′ n =
-    go (convertedAnswer r) (convertedAnswer r′) (outcome call value buf r after c) (outcome call value buf′ r′ after′ c′) n
-  where
-    go : (a a′ : Answer) → Outcome call value buf a after → Outcome call value buf′ a′ after′ → (a .number ≡ no-room → ⊥) → GrownWhole after buf′ after′ more a a′
-    go a a′ (refuses k) (refuses k′) m =
-        record {
-          answer = record { number = refl; counted = refl; place = refl; need = refl; free = longer };
-          written = refl;
-          behind = refl;
-        }
-    go a a′ (refuses k) (lays g k′ o) m = absurd (not-both call g k k′)
-    go a a′ (lays f k o) (refuses k′) m = absurd (not-both call f k′ k)
-    go a a′ (lays f k o) (lays g k′ o′) m =
-        grows-by (string f value) (f .terminated) more buf buf′ longer a a′ after after′ o
-        (subst (λ h. Laid.Outcome (string h value) (h .terminated) buf′ a′ after′) (one-form call g f k′ k) o′) m
+larger-room call value more buf after buf′ after′ r r′ longer c c′ =
+    grown call value more buf buf′ longer (convertedAnswer r) (convertedAnswer r′) after after′ (outcome call value buf r after c) (outcome call value buf′ r′ after′ c′)
 
 again : (call value : ℕ) (buf after buf′ after′ : List ℕ) (a a′ : Answer) → Outcome call value buf a after
     → Outcome call value buf′ a′ after′ → a .number ≡ no-room → a .need ≤ length buf′ → a′ .number ≡ 0

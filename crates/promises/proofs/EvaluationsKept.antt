@@ -1,1 +1,80 @@
 -- What `evaluate` promises is kept: demand 3 is that of every trace, at the trace of the evaluation.
+use mathlib.Core.Path.{_≡_, refl, ap, sym, subst, _∙_}
+use mathlib.Core.List.{List, Memᴰ·cast}
+use mathlib.Core.Logic.{_↔_}
+use Prim.Native.Nat.{ℕ, _+_, _-_, _≤_, _<_}
+use native.Mathlib.Omega.{arith}
+use Rattle.paper.specs.Answers.{in-text}
+use Rattle.paper.specs.Refusals.{allowance-spent}
+use Rattle.paper.specs.Traces.{Run, finished, refused, run, runNumber, runPlace, lookUps, allowed}
+use Rattle.paper.proofs.Choice.{clash}
+use Rattle.paper.proofs.DemandThree.{run-more, run-spent}
+use Rattle.variables.specs.Judgements.{Judged, good, long-text, bad-table, judgement}
+use Rattle.variables.proofs.Judging.{bad-number}
+use Rattle.expressions.specs.Answers.{readingOf, valueIn, evaluatedBy, evaluated, evaluatedNumber}
+use Rattle.expressions.specs.declared.Evaluated.{Evaluated}
+use Rattle.expressions.proofs.Orders.{by-judgement, when-good, when-long-text, when-bad-table, evaluated-listed, accepted}
+use Rattle.promises.specs.Evaluations.{OneAnswer, Refusals, Valued, Placed, JudgedAs, ByReading, Larger, Spent}
+
+pub one-answer : OneAnswer
+one-answer text table allowance r r′ c c′ = c .answer ∙ sym (c′ .answer)
+
+pub refusals : Refusals
+refusals text table allowance r c = Memᴰ·cast (ap evaluatedNumber (c .answer)) (evaluated-listed text table allowance)
+
+-- the numbers of an answer by a run are the run's
+placed-by : (r : Run) (value : ℕ) → Placed (runNumber r) in-text (runPlace r) (evaluatedBy r value)
+placed-by (finished end left) value = record { number = refl; counted = refl; place = refl }
+placed-by (refused number place) value = record { number = refl; counted = refl; place = refl }
+
+module _ (text table : List ℕ) (allowance : ℕ) where
+  judged-as : (d : Judged) → judgement text table ≡ d → JudgedAs d (readingOf text table) allowance (evaluated text table allowance)
+  judged-as good e =
+      let ran = run (readingOf text table) (allowed allowance) in
+      subst (Placed (runNumber ran) in-text (runPlace ran)) (sym (when-good text table allowance e)) (placed-by ran (valueIn text table))
+  judged-as long-text e =
+      let w = when-long-text text table allowance e in
+      record { number = w .number; counted = w .counted; place = w .place }
+  judged-as (bad-table number place) e =
+      let w = when-bad-table text table allowance number place e in
+      record { number = w .number; counted = w .counted; place = w .place }
+
+pub by-reading : ByReading
+by-reading text table allowance r c =
+    subst (JudgedAs (judgement text table) (readingOf text table) allowance) (sym (c .answer)) (judged-as text table allowance (judgement text table) refl)
+
+pub value-is : Valued
+value-is text table allowance r c e =
+    subst (λ a. evaluatedNumber a ≡ 0 → _) (sym (c .answer)) (λ z. accepted text table allowance z .pattern) e
+
+pub larger : Larger
+larger text table allowance allowance′ r r′ up c c′ n = c′ .answer ∙ go (judgement text table) refl ∙ sym (c .answer)
+  where
+    go : (d : Judged) → judgement text table ≡ d → evaluated text table allowance′ ≡ evaluated text table allowance
+    go good e =
+        let t = readingOf text table in
+        let v = valueIn text table in
+        let added : allowed allowance + (allowed allowance′ - allowed allowance) ≡ allowed allowance′ = omega arith in
+        let number : runNumber (run t (allowed allowance)) ≡ evaluatedNumber r =
+        sym (ap evaluatedNumber (c .answer ∙ when-good text table allowance e) ∙ placed-by (run t (allowed allowance)) v .number) in
+        when-good text table allowance′ e ∙ ap (λ l. evaluatedBy (run t l) v) (sym added)
+        ∙ run-more t (λ q. evaluatedBy q v) (record { same = λ end l l′. refl }) (allowed allowance) (allowed allowance′ - allowed allowance)
+        (λ h. n (sym number ∙ h))
+        ∙ sym (when-good text table allowance e)
+    go long-text e = by-judgement text table allowance′ long-text e ∙ sym (by-judgement text table allowance long-text e)
+    go (bad-table number place) e =
+        by-judgement text table allowance′ (bad-table number place) e ∙ sym (by-judgement text table allowance (bad-table number place) e)
+
+pub spent-comes : Spent
+spent-comes text table allowance r c = go (judgement text table) refl (by-reading text table allowance r c)
+  where
+    go : (d : Judged) → judgement text table ≡ d → JudgedAs d (readingOf text table) allowance r
+        → (evaluatedNumber r ≡ allowance-spent) ↔ ((judgement text table ≡ good) × (allowed allowance < lookUps (readingOf text table)))
+    go good e p =
+        let exactly = run-spent (readingOf text table) (allowed allowance) in
+        (λ h. (e, exactly .0 (sym (p .number) ∙ h)), λ h. p .number ∙ exactly .1 (h .1))
+    go long-text e p = (λ h. absurd (omega (arith, p .number)), λ h. clash (cc (e, h .0)))
+    go (bad-table number place) e p = (
+      λ h. absurd (omega (arith, p .number, bad-number text table number place e)),
+      λ h. clash (cc (e, h .0)),
+    )

@@ -1,5 +1,6 @@
 -- Why the promises are kept.
 pub mod Contracts
+pub mod ReadBack
 pub mod Outcomes
 pub mod WorkedExamples
 pub mod ConversionsKept
@@ -7,3 +8,4 @@ pub mod ReadingsKept
 pub mod LookupsKept
 pub mod TranslationsKept
 pub mod EvaluationsKept
+pub mod Kept

@@ -13,8 +13,11 @@ use Rattle.paper.specs.Traces.{Trace, bytes, answer, Succeeds, lookUps, allowed
 use Rattle.paper.proofs.Choice.{clash}
 use Rattle.paper.proofs.DemandThree.{more-of-both, need-stays, second-ask, no-room-exactly, no-room-need, spent-exactly, refused-answer, accepted-need}
 use Rattle.variables.specs.Judgements.{Judged, good, long-text, bad-table, judgement}
-use Rattle.gs.specs.Translations.{readingOf, translatedAnswer}
+use Rattle.variables.proofs.Judging.{bad-number}
+use Rattle.gs.specs.Translations.{readingOf, translated, translatedAnswer}
 use Rattle.gs.specs.declared.Translated.{Translated}
+use Rattle.gs.proofs.Answers.{good-answer, long-text-answer, bad-table-answer, written-buffer, kept-buffer}
+use Rattle.gs.proofs.Limits.{translated-listed}
 use Rattle.promises.specs.Allowed.{Translates}
 use Rattle.promises.specs.Translations.{OneAnswer, Refusals, Refused, Kept, Bytes, judgedAnswer, ByReading, Larger, NoRoom, Need, Spent, SecondAsk}
 
@@ -65,3 +68,168 @@ module _ (given after buf buf′ after′ : List ℕ) (more : ℕ) (a a′ : Ans
         written = ap (λ n. take n after′) need ∙ sym (ap (λ n. take n after) need);
         behind = ap (drop (a .need)) b′;
       }
+
+-- two findings of one text and table are the same
+not-good : (text table : List ℕ) (d : Judged) → judgement text table ≡ d → (d ≡ good → ⊥) → judgement text table ≡ good → ⊥
+not-good text table d e n g = n (sym e ∙ g)
+
+module _ (text table : List ℕ) (flags allowance room : ℕ) where
+  abbrev reading : Trace
+  reading = readingOf text table flags
+
+  judged-as : (d : Judged) → judgement text table ≡ d
+      → translatedAnswer (translated text table flags allowance room) ≡ judgedAnswer d reading allowance room
+  judged-as good e = good-answer text table flags allowance room e
+  judged-as long-text e = long-text-answer text table flags allowance room e
+  judged-as (bad-table number place) e = bad-table-answer text table flags allowance room number place e
+
+  abbrev judged : Answer
+  judged = judgedAnswer (judgement text table) reading allowance room
+
+  judged-need : judged .number ≡ 0 → judged .need ≡ length (bytes reading)
+  judged-need = go (judgement text table) refl
+    where
+      go : (d : Judged) → judgement text table ≡ d → judgedAnswer d reading allowance room .number ≡ 0
+          → judgedAnswer d reading allowance room .need ≡ length (bytes reading)
+      go good e = accepted-need reading (allowed allowance) room
+      go long-text e = λ z. absurd (omega arith)
+      go (bad-table number place) e = λ z. absurd (omega (arith, bad-number text table number place e))
+
+  judged-no-room : (judged .number ≡ no-room)
+      ↔ ((judgement text table ≡ good) × (lookUps reading ≤ allowed allowance) × Succeeds reading × (room < length (bytes reading)))
+  judged-no-room = go (judgement text table) refl
+    where
+      go : (d : Judged) → judgement text table ≡ d
+          → (judgedAnswer d reading allowance room .number ≡ no-room)
+          ↔ ((judgement text table ≡ good) × (lookUps reading ≤ allowed allowance) × Succeeds reading × (room < length (bytes reading)))
+      go good e =
+          let exactly = no-room-exactly reading (allowed allowance) room in
+          (λ h. (e, exactly .0 h), λ h. exactly .1 (h .1))
+      go long-text e = (λ h. absurd (omega arith), λ h. absurd (not-good text table long-text e (λ q. clash (cc)) (h .0)))
+      go (bad-table number place) e = (
+        λ h. absurd (omega (arith, bad-number text table number place e)),
+        λ h. absurd (not-good text table (bad-table number place) e (λ q. clash (cc)) (h .0)),
+      )
+
+  judged-spent : (judged .number ≡ allowance-spent) ↔ ((judgement text table ≡ good) × (allowed allowance < lookUps reading))
+  judged-spent = go (judgement text table) refl
+    where
+      go : (d : Judged) → judgement text table ≡ d
+          → (judgedAnswer d reading allowance room .number ≡ allowance-spent) ↔ ((judgement text table ≡ good) × (allowed allowance < lookUps reading))
+      go good e =
+          let exactly = spent-exactly reading (allowed allowance) room in
+          (λ h. (e, exactly .0 h), λ h. exactly .1 (h .1))
+      go long-text e = (λ h. absurd (omega arith), λ h. absurd (not-good text table long-text e (λ q. clash (cc)) (h .0)))
+      go (bad-table number place) e = (
+        λ h. absurd (omega (arith, bad-number text table number place e)),
+        λ h. absurd (not-good text table (bad-table number place) e (λ q. clash (cc)) (h .0)),
+      )
+
+pub refusals : Refusals
+refusals text table flags allowance out after r c =
+    Memᴰ·cast (ap (λ r. translatedAnswer r .number) (c .answer)) (translated-listed text table flags allowance (length out))
+
+pub by-reading : ByReading
+by-reading text table flags allowance out after r c =
+    ap translatedAnswer (c .answer) ∙ judged-as text table flags allowance (length out) (judgement text table) refl
+
+number-by : {a b : Answer} → a ≡ b → a .number ≡ b .number
+number-by e = ap (λ (a : Answer). a .number) e
+
+pub kept : Kept
+kept text table flags allowance out after r c n =
+    c .buffer ∙ kept-buffer text table flags allowance out (λ e. n (number-by (ap translatedAnswer (c .answer)) ∙ e))
+
+pub refused-free : Refused
+refused-free text table flags allowance out after r c =
+    subst (λ (a : Answer). (a .number ≡ 0 → ⊥) → (a .free ≡ length out) × ((a .number ≡ no-room → ⊥) → a .need ≡ 0))
+    (sym (by-reading text table flags allowance out after r c))
+    (judged-refused (readingOf text table flags) (judgement text table) allowance (length out))
+
+pub bytes-left : Bytes
+bytes-left text table flags allowance out after r c e =
+    let given = bytes (readingOf text table flags) in
+    let same = by-reading text table flags allowance out after r c in
+    let need : translatedAnswer r .need ≡ length given =
+    ap (λ (a : Answer). a .need) same ∙ judged-need text table flags allowance (length out) (sym (number-by same) ∙ e) in
+    let defined = ap translatedAnswer (c .answer) in (
+      c .buffer ∙ written-buffer text table flags allowance out (sym (number-by defined) ∙ e)
+          ∙ ap (λ n. given ++ drop n out) (sym (ap (λ (a : Answer). a .need) defined) ∙ need),
+      need,
+    )
+
+pub larger : Larger
+larger text table flags allowance allowance′ more out after out′ after′ r r′ up longer c c′ n m = go (decLt 0 (translatedAnswer r .number))
+  where
+    same : translatedAnswer r ≡ judgedAnswer (judgement text table) (readingOf text table flags) allowance (length out)
+    same = by-reading text table flags allowance out after r c
+
+    same′ : translatedAnswer r′ ≡ judgedAnswer (judgement text table) (readingOf text table flags) allowance′ (length out + more)
+    same′ =
+        by-reading text table flags allowance′ out′ after′ r′ c′
+        ∙ ap (judgedAnswer (judgement text table) (readingOf text table flags) allowance′) longer
+
+    grown : Grown more (translatedAnswer r) (translatedAnswer r′)
+    grown =
+        subst₂ (Grown more) (sym same) (sym same′)
+        (judged-grows (readingOf text table flags) (judgement text table) allowance allowance′ (length out) more up
+        (λ h. n (number-by same ∙ h)) (λ h. m (number-by same ∙ h)))
+
+    go : Dec (0 < translatedAnswer r .number) → GrownWhole after out′ after′ more (translatedAnswer r) (translatedAnswer r′)
+    go (no p) =
+        let z : translatedAnswer r .number ≡ 0 = omega arith in
+        let b = bytes-left text table flags allowance out after r c z in
+        let b′ = bytes-left text table flags allowance′ out′ after′ r′ c′ (grown .number ∙ z) in
+        accepted-whole (bytes (readingOf text table flags)) after out out′ after′ more (translatedAnswer r) (translatedAnswer r′) grown (b .1) (b .0) (b′ .0)
+    go (yes p) =
+        let z : translatedAnswer r .number ≡ 0 → ⊥ = λ e. omega arith in
+        refused-whole (bytes (readingOf text table flags)) after out out′ after′ more (translatedAnswer r) (translatedAnswer r′) grown
+        (refused-free text table flags allowance out after r c z .1 n)
+        (kept text table flags allowance′ out′ after′ r′ c′ (λ e. z (sym (grown .number) ∙ e)))
+
+pub no-room-comes : NoRoom
+no-room-comes text table flags allowance out after r c =
+    let same = number-by (by-reading text table flags allowance out after r c) in
+    let exactly = judged-no-room text table flags allowance (length out) in
+    (λ h. exactly .0 (sym same ∙ h), λ h. same ∙ exactly .1 h)
+
+pub spent-comes : Spent
+spent-comes text table flags allowance out after r c =
+    let same = number-by (by-reading text table flags allowance out after r c) in
+    let exactly = judged-spent text table flags allowance (length out) in
+    (λ h. exactly .0 (sym same ∙ h), λ h. same ∙ exactly .1 h)
+
+-- No room over a text and a table that are read
+module _ (text table : List ℕ) (flags allowance : ℕ) (out after : List ℕ) (r : Translated) (c : Translates text table flags allowance out r after)
+    (e : translatedAnswer r .number ≡ no-room) where
+  is-read : judgement text table ≡ good
+  is-read = no-room-comes text table flags allowance out after r c .0 e .0
+
+  read-as : (allowance′ : ℕ) (out′ after′ : List ℕ) (r′ : Translated) → Translates text table flags allowance′ out′ r′ after′
+      → translatedAnswer r′ ≡ answer (readingOf text table flags) (allowed allowance′) (length out′)
+  read-as allowance′ out′ after′ r′ c′ =
+      by-reading text table flags allowance′ out′ after′ r′ c′
+      ∙ ap (λ d. judgedAnswer d (readingOf text table flags) allowance′ (length out′)) is-read
+
+  lacks : answer (readingOf text table flags) (allowed allowance) (length out) .number ≡ no-room
+  lacks = sym (number-by (read-as allowance out after r c)) ∙ e
+
+pub need : Need
+need text table flags allowance allowance′ out after after′ r r′ up c c′ e =
+    let t = readingOf text table flags in
+    let same = read-as text table flags allowance out after r c e allowance out after r c in
+    let same′ = read-as text table flags allowance out after r c e allowance′ out after′ r′ c′ in
+    let l = lacks text table flags allowance out after r c e in (
+      ap (λ (a : Answer). a .need) same ∙ no-room-need t (allowed allowance) (length out) l,
+      same′ ∙ ap (λ k. answer t k (length out)) (sym (added t allowance allowance′ up))
+          ∙ need-stays t (allowed allowance) (length out) (allowed allowance′ - allowed allowance) l ∙ sym same,
+    )
+
+pub asked-again : SecondAsk
+asked-again text table flags allowance out after out′ after′ r r′ c e enough c′ =
+    let t = readingOf text table flags in
+    let same = read-as text table flags allowance out after r c e allowance out after r c in
+    let same′ = read-as text table flags allowance out after r c e allowance out′ after′ r′ c′ in
+    number-by same′
+    ∙ second-ask t (allowed allowance) (length out) (length out′) (lacks text table flags allowance out after r c e)
+    (subst (λ (a : Answer). a .need ≤ length out′) same enough)

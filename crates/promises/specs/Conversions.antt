@@ -11,8 +11,9 @@ use Rattle.paper.specs.Refusals.{no-room, unknown-call}
 use Rattle.numbers.specs.Strings.{Form, used, string}
 use Rattle.numbers.specs.Calls.{unknown, known, described, convertedAnswer}
 use Rattle.numbers.specs.declared.Converted.{Converted}
-use Rattle.reader.specs.Reading.{no-limit, lead, readNumber, readPlace, readValue}
+use Rattle.reader.specs.Reading.{no-limit, readNumber, readPlace, readValue}
 use Rattle.reader.specs.declared.Reading.{Reading}
+use Rattle.promises.specs.Leads.{lead}
 use Rattle.promises.specs.Allowed.{Converts, Reads}
 
 -- one answer and one content of the buffer
@@ -62,10 +63,10 @@ Bytes =
     → after ≡ string form value ++ (terminator (form .terminated) ++ drop (needed form value) buf)
 
 -- Demand 2: a string without a sign or spaces is read, behind what tells its base, as the bits that the call uses, up to its end
-pub record ReadAs (value place : ℕ) (r : Reading) : Type 0 where
+pub record ReadAs (n end : ℕ) (r : Reading) : Type 0 where
   pub number : readNumber r ≡ 0
-  pub value : readValue r ≡ value
-  pub place : readPlace r ≡ place
+  pub value : readValue r ≡ n
+  pub place : readPlace r ≡ end
 
 abbrev pub ReadsBack : Type 0
 ReadsBack =

@@ -28,10 +28,10 @@ Valued =
 
 -- number, place and what it is counted in, whatever is found of text and table before the text is read: 18 and 13 do not go by the
 -- allowance; else they are those of the evaluation's run
-pub record Placed (number counted place : ℕ) (r : Evaluated) : Type 0 where
-  pub number : evaluatedNumber r ≡ number
-  pub counted : evaluatedCounted r ≡ counted
-  pub place : evaluatedPlace r ≡ place
+pub record Placed (n in-what at : ℕ) (r : Evaluated) : Type 0 where
+  pub number : evaluatedNumber r ≡ n
+  pub counted : evaluatedCounted r ≡ in-what
+  pub place : evaluatedPlace r ≡ at
 
 abbrev pub JudgedAs : Judged → Trace → ℕ → Evaluated → Type 0
 JudgedAs good reading allowance r = Placed (runNumber (run reading (allowed allowance))) in-text (runPlace (run reading (allowed allowance))) r

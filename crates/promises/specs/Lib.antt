@@ -1,5 +1,6 @@
 -- What the library promises, over what the contracts allow.
 pub mod Allowed
+pub mod Leads
 pub mod Ties
 pub mod Examples
 pub mod Conversions

@@ -7,7 +7,7 @@ use native.Mathlib.Omega.{arith}
 use borrow.Author.Tests.{leb-false, ltb-false}
 use lib.Dec.{ltb, leb}
 use lib.ListN.{length}
-use Rattle.paper.specs.Refusals.{unknown-name, bad-table, over-length, longest}
+use Rattle.paper.specs.Refusals.{unknown-name, allowance-spent, bad-table, over-length, longest}
 use Rattle.paper.specs.declared.RecordPlace.{RecordPlace}
 use Rattle.paper.proofs.Choice.{clash, either}
 use Rattle.variables.specs.Records.{nextPlace, Sought, absent, present}
@@ -24,8 +24,8 @@ pub record Bounded (r : Checked) : Type 0 where
   pub place : checkPlace r ≤ longest
   pub count : checkCount r ≤ most
   pub listed : List·Memᴰ (checkNumber r) checkNumbers
-  -- a refusal has a number
-  pub refused : (number : ℕ) (at : RecordPlace) → r ≡ BadTable number at → 0 < number
+  -- a refusal has a number that is neither that of No room nor of Allowance spent
+  pub refused : (number : ℕ) (at : RecordPlace) → r ≡ BadTable number at → allowance-spent < number
 
 module _ (table : List ℕ) (short : length table ≤ longest) where
   good : (count : ℕ) → count ≤ most → Bounded (Good count)

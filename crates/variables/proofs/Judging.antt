@@ -8,12 +8,13 @@ use native.Mathlib.Omega.{arith}
 use native.Mathlib.Decide.{decLt}
 use borrow.Author.Tests.{lt-ltb, le-ltb}
 use lib.ListN.{length}
-use Rattle.paper.specs.Refusals.{over-length, longest, tooLong}
+use Rattle.paper.specs.Refusals.{allowance-spent, over-length, longest, tooLong}
 use Rattle.paper.proofs.Choice.{clash}
 use Rattle.variables.specs.Tables.{scan, badTable, checked}
 use Rattle.variables.specs.Judgements.{Judged, good, long-text, bad-table, judged-by, judgement}
 use Rattle.variables.specs.declared.Checked.{Checked}
 use Rattle.variables.specs.declared.Checked.the-variants.{Good, BadTable}
+use Rattle.variables.proofs.Bounds.{checked-bounded}
 
 module _ (text table : List ℕ) where
   -- a text that is too long
@@ -76,3 +77,7 @@ module _ (text table : List ℕ) where
           let same-number : n ≡ number = cc in
           let same-place : at .0 ≡ place = cc in
           ap₂ badTable same-number same-place
+
+  -- its number is neither that of No room nor of Allowance spent
+  pub bad-number : (number place : ℕ) → judgement text table ≡ bad-table number place → allowance-spent < number
+  bad-number number place e = checked-bounded table .refused number (record { 0 = place }) (refused number place e .1)

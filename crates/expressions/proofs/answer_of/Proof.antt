@@ -1,7 +1,7 @@
 -- `answer_of` meets its contract, case by case.
 use mathlib.Core.Path.{ap, sym, _∙_}
 use Rattle.expressions.specs.Answers.{refusedAt}
-use Rattle.expressions.specs.Steps.{answerOf}
+use Rattle.expressions.specs.inner.Steps.{answerOf}
 use borrow.Author.Needs.{needs}
 use Rattle.expressions.proofs.answer_of.Statement.{statement}
 use Rattle.expressions.proofs.answer_of.Tie as tie

@@ -5,9 +5,9 @@ use Prim.Native.Nat.{ℕ}
 use Rattle.paper.specs.Traces.{run}
 use Rattle.variables.specs.Names.{namesOf}
 use Rattle.arithmetic.specs.Operators.{loosest}
-use Rattle.expressions.specs.Trees.{levelAt, operandAt, ended, whole}
+use Rattle.expressions.specs.Trees.{levelAt, operandAt, endedTree, wholeTree}
 use Rattle.expressions.specs.Answers.{readingOf, valueIn, evaluatedBy}
-use Rattle.expressions.specs.Steps.{partOf, endedPart, answerOf}
+use Rattle.expressions.specs.inner.Steps.{partOf, endedPart, answerOf}
 use Rattle.expressions.specs.declared.Evaluated.{Evaluated}
 use Rattle.expressions.specs.declared.parts.Account.the-variants.{Open}
 use Rattle.expressions.specs.declared.parts.Part.{Part}
@@ -19,11 +19,11 @@ use Rattle.expressions.proofs.evaluate_over.Tie as tie
 evaluated-whole : (text table : List ℕ) (left : ℕ) (part last : Part) (r : Evaluated)
     → part ≡ partOf (namesOf table) (Open left) (levelAt text loosest (operandAt text 16) 0) → last ≡ endedPart text part → r ≡ answerOf last
     → r ≡ evaluatedBy (run (readingOf text table) left) (valueIn text table)
-unfolding whole
+unfolding wholeTree
 evaluated-whole text table left part last r p e h =
     let parsed = levelAt text loosest (operandAt text 16) 0 in
     h ∙ ap answerOf (e ∙ ap (endedPart text) p ∙ part-ended (namesOf table) text (Open left) parsed)
-    ∙ part-answer (namesOf table) left (ended text parsed)
+    ∙ part-answer (namesOf table) left (endedTree text parsed)
 
 disjunction-requires : tie.Need-disjunction-requires
 disjunction-requires c κs = search needs

@@ -1,18 +1,20 @@
--- `answer` meets its contract: what is written is the bytes that were given, or the line of the refusal.
-use mathlib.Core.Path.{refl, sym, _∙_}
+-- `answer` meets its contract: what stands in the buffer is the bytes that were given, or the line of the refusal.
+use mathlib.Core.Path.{_≡_, refl, sym, _∙_}
+use lib.ListN.{length}
 use borrow.Author.Needs.{needs}
-use Rattle.filter.proofs.ShownLaws.{shown-answer, written-answer}
+use Rattle.paper.specs.Refusals.{longest}
+use Rattle.filter.proofs.ShownLaws.{written-answer, line-answer}
 use Rattle.filter.proofs.answer.Statement.{statement}
 use Rattle.filter.proofs.answer.Tie as tie
 
-sub-translate : tie.Need-sub-translate
-sub-translate c = search needs
+sub-no-table : tie.Need-sub-no-table
+sub-no-table c = search needs
 
-part-translate-start : tie.Need-part-translate-start
-part-translate-start c = search needs
+part-no-table-start : tie.Need-part-no-table-start
+part-no-table-start c = search needs
 
-part-translate-end : tie.Need-part-translate-end
-part-translate-end c = search needs
+part-no-table-end : tie.Need-part-no-table-end
+part-no-table-end c = search needs
 
 none-requires : tie.Need-none-requires
 none-requires c κs = search needs
@@ -35,54 +37,38 @@ enum-known-translated-3 c = search needs
 refusal-requires-2 : tie.Need-refusal-requires-2
 refusal-requires-2 c κs = search needs
 
-same-length : tie.Need-same-length
-same-length c = search needs
+-- the room is what the program has
+room : (c : tie.After-translate-arg) → length (c .before .before .before .before .args .out .now) ≡ longest
+room c = search needs
 
 returns : tie.Need-returns
 returns c =
-    let s = c .before .before .before .before .before .before .before .before .before .before .before in
-    let t = c .before .before .before .before .before in
-    let no-flags = t .before .before .none .ensures in
-    written-answer (s .args .text .now) _ _ (s .args .out .now) refl no-flags (s .pre) _ _ _ _ (t .translate .ensures .1)
+    let t = c .before .before .before in
+    let s = t .before .before .before .before .before in
+    written-answer (s .args .text .now) _ _ (s .args .out .now) refl (t .before .before .none .ensures) (room (t .before)) _ _ _ _ (t .translate .ensures .1)
     (sym (t .translate .ensures .0) ∙ c .before .translated .given .1)
-
-same-length-2 : tie.Need-same-length-2
-same-length-2 c = search needs
 
 returns-2 : tie.Need-returns-2
 returns-2 c =
-    let s = c .before .before .before .before .before .before .before .before .before .before .before .before .before .before .before in
-    let t = c .before .before .before .before .before .before .before .before .before in
-    let no-flags = t .before .before .none .ensures in
-    let l = c .before .before .refusal .ensures in (
-      l .0,
-      l .1
-          ∙ shown-answer (s .args .text .now) _ _ (s .args .out .now) refl no-flags (s .pre) _
-          (sym (t .translate .ensures .0) ∙ c .before .before .before .before .before .translated2 .given .1),
-    )
-
-same-length-3 : tie.Need-same-length-3
-same-length-3 c = search needs
+    let t = c .before .before .before .before .before in
+    let s = t .before .before .before .before .before in
+    line-answer (s .args .text .now) _ _ (s .args .out .now) refl (t .before .before .none .ensures) (room (t .before)) _ refl (t .translate .ensures .1)
+    (sym (t .translate .ensures .0) ∙ c .before .before .before .translated2 .given .1) (c .refusal .ensures)
 
 returns-3 : tie.Need-returns-3
 returns-3 c =
-    let s = c .before .before .before .before .before .before .before .before .before .before .before .before .before .before .before in
-    let t = c .before .before .before .before .before .before .before .before .before in
-    let no-flags = t .before .before .none .ensures in
-    let l = c .before .before .refusal2 .ensures in (
-      l .0,
-      l .1
-          ∙ shown-answer (s .args .text .now) _ _ (s .args .out .now) refl no-flags (s .pre) _
-          (sym (t .translate .ensures .0) ∙ c .before .before .before .before .before .translated3 .given .1),
-    )
+    let t = c .before .before .before .before .before in
+    let s = t .before .before .before .before .before in
+    line-answer (s .args .text .now) _ _ (s .args .out .now) refl (t .before .before .none .ensures) (room (t .before)) _ refl (t .translate .ensures .1)
+    (sym (t .translate .ensures .0) ∙ c .before .before .before .translated3 .given .1) (c .refusal2 .ensures)
 
 pub answer-spec : {M : Type 1} → statement M
 answer-spec =
     tie.close
     (tie.spec
-    sub-translate
-    part-translate-start
-    part-translate-end
+    sub-no-table
+    part-no-table-start
+    part-no-table-end
     none-requires
     translate-requires
     enum-known-translated
@@ -90,9 +76,6 @@ answer-spec =
     refusal-requires
     enum-known-translated-3
     refusal-requires-2
-    same-length
     returns
-    same-length-2
     returns-2
-    same-length-3
     returns-3)

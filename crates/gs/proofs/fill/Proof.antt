@@ -6,9 +6,9 @@ use lib.ListN.{length, drop}
 use Rattle.paper.specs.Refusals.{no-room}
 use Rattle.paper.specs.Traces.{bytes}
 use Rattle.gs.specs.Translations.{readingOf, refusedAt, leftBy}
-use Rattle.gs.specs.Steps.{Read}
+use Rattle.gs.specs.inner.Steps.{Read}
 use Rattle.gs.specs.declared.Translated.the-variants.{Written}
-use Rattle.gs.proofs.Fills.{nothing-lent, measured-long, measured-end, measured-halt, written, halted-answer, short-answer, whole-answer}
+use Rattle.gs.proofs.Fills.{nothing-lent, measured-long, measured-end, measured-refused, written, refused-answer, short-answer, whole-answer}
 use borrow.Author.Needs.{needs}
 use Rattle.gs.proofs.fill.Statement.{statement}
 use Rattle.gs.proofs.fill.Tie as tie
@@ -64,8 +64,8 @@ returns-2 c =
     let t = readingOf (a .text .now) (a .table .now) (a .flags .0) in
     let first = c .before .before .before .before .before .before .expand in
     let back = nothing-lent (first .last .1 .1 .1 .1 .1 .1 .1 .0) (a .out .now) (measured-long t (length (a .text .now)) (a .left) [] _ _ (first .ensures)) in
-    let m = measured-halt t (length (a .text .now)) (a .left) [] _ _ _ _ (first .ensures) (c .before .before .measured .given .1) in (
-      c .refused .ensures ∙ halted-answer t (a .left) _ _ (length (a .out .now)) m,
+    let m = measured-refused t (length (a .text .now)) (a .left) [] _ _ _ _ (first .ensures) (c .before .before .measured .given .1) in (
+      c .refused .ensures ∙ refused-answer t (a .left) _ _ (length (a .out .now)) m,
       back ∙ ap (λ r. leftBy r (bytes t) (a .out .now)) (sym (c .refused .ensures)),
     )
 

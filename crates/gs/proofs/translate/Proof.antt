@@ -1,5 +1,5 @@
 -- `translate` meets its contract: 18 for the text, 18 and 13 for the table, then the reading.
-use mathlib.Core.Path.{_≡_, refl, ap, sym, _∙_}
+use mathlib.Core.Path.{_≡_, ap, sym, _∙_}
 use mathlib.Core.List.{List}
 use Prim.Native.Nat.{ℕ}
 use lib.ListN.{length}
@@ -7,8 +7,9 @@ use Rattle.paper.specs.Traces.{bytes, answer}
 use Rattle.gs.specs.Translations.{readingOf, translatedBy, translatedOver, leftBy, translated, outAfter}
 use Rattle.gs.proofs.Orders.{too-long, over}
 use Rattle.gs.specs.declared.Translated.{Translated}
+use Rattle.variables.specs.Judgements.{judged-by}
 use Rattle.variables.specs.declared.Checked.{Checked}
-use Rattle.variables.proofs.Indexed.{lines-inside, all-lines}
+use Rattle.variables.proofs.KeysFind.{lines-inside, all-lines}
 use borrow.Author.Needs.{needs}
 use Rattle.gs.proofs.translate.Statement.{statement}
 use Rattle.gs.proofs.translate.Tie as tie
@@ -32,27 +33,27 @@ returns c =
           ∙ left-by (a .text .now) (a .table .now) (a .flags .0) (a .allowance) (a .out .now) _ e,
     )
 
-index-table-requires : tie.Need-index-table-requires
-index-table-requires c κs = search needs
+key-table-requires : tie.Need-key-table-requires
+key-table-requires c κs = search needs
 
 -- where the table is checked
-module _ (c : tie.After-index-table) where
+module _ (c : tie.After-key-table) where
   abbrev start : tie.Start
-  start = c .before .before .before .before .before .before
+  start = c .before .before .before .before .before
 
   abbrev table : List ℕ
   table = start .args .table .now
 
   -- an answer by what was checked is the one that is defined
   by-check :
-      {k : Checked} → c .index-table .result ≡ k →
+      {k : Checked} → c .key-table .result .checked ≡ k →
       let a = start .args in
-      translatedOver k (readingOf (a .text .now) table (a .flags .0)) (a .allowance) (length (a .out .now))
+      translatedOver (judged-by k) (readingOf (a .text .now) table (a .flags .0)) (a .allowance) (length (a .out .now))
       ≡ translated (a .text .now) table (a .flags .0) (a .allowance) (length (a .out .now))
   by-check e =
       let a = start .args in
-      over (a .text .now) table (a .flags .0) (a .allowance) (length (a .out .now)) _ (c .before .before .if1 .left)
-      (sym (c .index-table .ensures .0) ∙ e)
+      over (a .text .now) table (a .flags .0) (a .allowance) (length (a .out .now)) _ (c .before .if1 .left)
+      (sym (c .key-table .ensures .checked) ∙ e)
 
 enum-known-checked : tie.Need-enum-known-checked
 enum-known-checked c = search needs
@@ -68,8 +69,8 @@ part-fill-start c = search needs
 
 part-fill-end : tie.Need-part-fill-end
 part-fill-end c =
-    let t = c .before .before .before .before in
-    lines-inside (table t) (t .index-table .ensures .0) (c .before .before .checked2 .given .1) _ (t .index-table .ensures .1) refl
+    let k = c .before .before in
+    lines-inside (k .before .before .before .key-table .ensures) (k .checked2 .given .1)
 
 cap-requires : tie.Need-cap-requires
 cap-requires c κs = search needs
@@ -77,15 +78,12 @@ cap-requires c κs = search needs
 fill-requires : tie.Need-fill-requires
 fill-requires c κs =
     let k = c .before .before .before .before .before in
-    let t = k .before .before in (
-      t .before .before .if1 .left,
-      c .before .cap .ensures .1,
-      all-lines (table t) (t .index-table .ensures .0) (k .checked2 .given .1) _ (t .index-table .ensures .1),
-    )
+    let t = k .before .before .before in
+    (t .before .if1 .left, c .before .cap .ensures .1, all-lines (t .key-table .ensures) (k .checked2 .given .1))
 
 returns-2 : tie.Need-returns-2
 returns-2 c =
-    let t = c .before .before .before in
+    let t = c .before .before .before .before in
     let a = start t .args in
     let e = by-check t (c .before .checked .given .1) in
     (e, left-by (a .text .now) (a .table .now) (a .flags .0) (a .allowance) (a .out .now) _ e)
@@ -96,7 +94,7 @@ same-length c = search needs
 returns-3 : tie.Need-returns-3
 returns-3 c =
     let k = c .before .before .before .before .before .before .before .before in
-    let t = k .before .before in
+    let t = k .before .before .before in
     let a = start t .args in
     let reading = readingOf (a .text .now) (a .table .now) (a .flags .0) in
     let fill = c .before .before .fill .ensures in
@@ -110,7 +108,7 @@ translate-spec =
     (tie.spec
     refused-requires
     returns
-    index-table-requires
+    key-table-requires
     enum-known-checked
     enum-known-checked-2
     sub-fill

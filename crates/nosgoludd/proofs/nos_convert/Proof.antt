@@ -3,10 +3,11 @@ use mathlib.Core.Path.{_≡_, ap, sym, subst, _∙_}
 use native.Mathlib.Omega.{arith}
 use lib.ListN.{length}
 use borrow.Author.Needs.{needs}
-use Rattle.numbers.specs.Strings.{inPaper}
+use Rattle.numbers.specs.Calls.{convertedAnswer}
 use Rattle.numbers.specs.declared.Converted.{Converted}
-use Rattle.numbers.proofs.Bounds.{Small, answer-small}
+use Rattle.numbers.proofs.Bounds.{Small}
 use Rattle.nosgoludd.specs.Packed.{packedConversion}
+use Rattle.nosgoludd.proofs.Unpacked.{converted-small}
 use Rattle.nosgoludd.proofs.nos_convert.Statement.{statement}
 use Rattle.nosgoludd.proofs.nos_convert.Tie as tie
 
@@ -17,10 +18,10 @@ enum-known-answer : tie.Need-enum-known-answer
 enum-known-answer c = search needs
 
 -- the numbers of every answer are small enough to pack
-small : (c : tie.After-convert) (r : Converted) → c .convert .result ≡ r → Small (inPaper r)
+small : (c : tie.After-convert) (r : Converted) → c .convert .result ≡ r → Small (convertedAnswer r)
 small c r known =
     let a = c .before .before .before .args in
-    subst (λ r. Small (inPaper r)) (sym (c .convert .ensures .0) ∙ known) (answer-small (a .call) (a .value) (length (a .buf .now)))
+    subst (λ r. Small (convertedAnswer r)) (sym (c .convert .ensures .0) ∙ known) (converted-small (a .call) (a .value) (length (a .buf .now)))
 
 pack-requires : tie.Need-pack-requires
 pack-requires c κs =

@@ -2,7 +2,7 @@
 use mathlib.Core.Path.{_≡_, ap, sym, subst, _∙_}
 use native.Mathlib.Omega.{arith}
 use lib.ListN.{length}
-use Rattle.gs.specs.Translations.{translated, outAfter, inPaper}
+use Rattle.gs.specs.Translations.{translated, outAfter, translatedAnswer}
 use Rattle.gs.specs.declared.Translated.{Translated}
 use Rattle.gs.proofs.Limits.{Packable, translated-packable}
 use Rattle.nosgoludd.specs.Packed.{packedTranslation}
@@ -33,12 +33,12 @@ left c =
     c .translate .ensures .1 ∙ ap (λ f. outAfter (a .text .now) (a .table .now) f (a .allowance) (a .out .now)) (c .before .before .of .ensures)
 
 -- the numbers of every answer are small enough to pack
-small : (c : tie.After-translate) (r : Translated) → c .translate .result ≡ r → Packable (inPaper r)
+small : (c : tie.After-translate) (r : Translated) → c .translate .result ≡ r → Packable (translatedAnswer r)
 small c r known =
     let a = c .before .before .before .before .before .before .args in
-    subst (λ r. Packable (inPaper r)) (sym (answered c) ∙ known)
+    subst (λ r. Packable (translatedAnswer r)) (sym (answered c) ∙ known)
     (translated-packable (a .text .now) (a .table .now) (a .flags) (a .allowance) (length (a .out .now))
-    (λ k. omega (arith, c .before .before .before .before .before .shared-slice-known .given k)) (λ k. omega (arith, c .before .before .before .before .shared-slice-known2 .given k)))
+    (λ k. omega (arith, c .before .before .before .before .shared-slice-known2 .given k)))
 
 pack-requires : tie.Need-pack-requires
 pack-requires c κs =

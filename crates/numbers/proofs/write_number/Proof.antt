@@ -1,7 +1,7 @@
 -- `write_number` meets its contract: the size decides, and the string and the zero byte behind it are written where they have room.
 use mathlib.Core.Path.{_≡_, refl, ap, ap₂, sym, _∙_}
 use mathlib.Core.Bool.{Bool, true, false, cond}
-use mathlib.Core.List.{List, [], _∷_, _++_}
+use mathlib.Core.List.{List, _++_}
 use Prim.Native.Nat.{ℕ, _+_, _-_, _≤_, _<_}
 use native.Mathlib.Omega.{arith}
 use lib.ListN.{length, drop, set}
@@ -12,7 +12,7 @@ use Rattle.paper.specs.Layings.{terminator, roomFor, laying, laidIn}
 use Rattle.paper.proofs.Choice.{below, not-below}
 use Rattle.numbers.specs.Strings.{radix}
 use Rattle.numbers.specs.Calls.{convertedBy}
-use Rattle.numbers.specs.inner.Steps.{charactersOf, stringOf}
+use Rattle.numbers.specs.inner.Steps.{stringOf}
 use Rattle.numbers.specs.declared.Converted.the-variants.{Written, Refused}
 use Rattle.numbers.proofs.Laws.{string-length}
 use Rattle.numbers.proofs.Buffer.{sets-if, ended}

@@ -31,7 +31,7 @@ returns : tie.Need-returns
 unfolding less atMost
 returns c =
     let a = c .before .args in
-    ap not (c .less .ensures) ∙ not-less (signed (a .r)) (signed (a .l))
+    ap not (c .less .ensures) ∙ not-less (signed (a .rhs)) (signed (a .lhs))
 
 pub at-most-spec : {M : Type 1} → statement M
 at-most-spec = tie.close (tie.spec less-requires returns)

@@ -29,21 +29,21 @@ alike a b c d f g = go (ltb a b) refl
 abbrev up : ℕ → ℕ
 up v = sum v 2147483648
 
-ordered : (l r : ℕ) → l < 4294967296 → r < 4294967296 → ltb (up l) (up r) ≡ less l r
+ordered : (lhs rhs : ℕ) → lhs < 4294967296 → rhs < 4294967296 → ltb (up lhs) (up rhs) ≡ less lhs rhs
 unfolding sum less
-ordered l r fits fits′ =
-    by-sign (λ z. ltb (up l) (up r) ≡ ltZ z (signed r)) l
-    (λ h. by-sign (λ z. ltb (up l) (up r) ≡ ltZ (pos l) z) r
-    (λ k. alike (up l) (up r) l r (λ o. omega arith) (λ o. omega arith))
-    (λ k. le-ltb (up l) (up r) (omega arith)))
-    (λ h. by-sign (λ z. ltb (up l) (up r) ≡ ltZ (negsuc (4294967295 - l)) z) r
-    (λ k. lt-ltb (up l) (up r) (omega arith))
-    (λ k. alike (up l) (up r) (4294967295 - r) (4294967295 - l) (λ o. omega arith) (λ o. omega arith)))
+ordered lhs rhs fits fits′ =
+    by-sign (λ z. ltb (up lhs) (up rhs) ≡ ltZ z (signed rhs)) lhs
+    (λ h. by-sign (λ z. ltb (up lhs) (up rhs) ≡ ltZ (pos lhs) z) rhs
+    (λ k. alike (up lhs) (up rhs) lhs rhs (λ o. omega arith) (λ o. omega arith))
+    (λ k. le-ltb (up lhs) (up rhs) (omega arith)))
+    (λ h. by-sign (λ z. ltb (up lhs) (up rhs) ≡ ltZ (negsuc (4294967295 - lhs)) z) rhs
+    (λ k. lt-ltb (up lhs) (up rhs) (omega arith))
+    (λ k. alike (up lhs) (up rhs) (4294967295 - rhs) (4294967295 - lhs) (λ o. omega arith) (λ o. omega arith)))
 
 returns : tie.Need-returns
 returns c =
     let a = c .before .before .args in
-    ap₂ ltb (c .before .raised .ensures) (c .raised2 .ensures) ∙ ordered (a .l) (a .r) (omega arith) (omega arith)
+    ap₂ ltb (c .before .raised .ensures) (c .raised2 .ensures) ∙ ordered (a .lhs) (a .rhs) (omega arith) (omega arith)
 
 pub less-spec : {M : Type 1} → statement M
 less-spec = tie.close (tie.spec raised-requires raised-requires-2 returns)

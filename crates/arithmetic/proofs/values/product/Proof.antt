@@ -10,9 +10,9 @@ use Rattle.arithmetic.proofs.values.product.Tie as tie
 
 mul-result : tie.Need-mul-result
 mul-result c =
-    let l : c .args .l ≤ 4294967295 = omega arith in
-    let r : c .args .r ≤ 4294967295 = omega arith in
-    omega (arith, mul-le-mul l r)
+    let lhs : c .args .lhs ≤ 4294967295 = omega arith in
+    let rhs : c .args .rhs ≤ 4294967295 = omega arith in
+    omega (arith, mul-le-mul lhs rhs)
 
 cast-result : tie.Need-cast-result
 cast-result c = search needs

@@ -19,7 +19,7 @@ over-zero (negsuc a) = rw div-zero
 
 returns : tie.Need-returns
 unfolding quotient signed
-returns c = rw (c .if1 .taken) (over-zero (signed (c .before .args .l)))
+returns c = rw (c .if1 .taken) (over-zero (signed (c .before .args .lhs)))
 
 size-requires : tie.Need-size-requires
 size-requires c κs = search needs
@@ -28,7 +28,7 @@ size-requires-2 : tie.Need-size-requires-2
 size-requires-2 c κs = search needs
 
 div-q : tie.Need-div-q
-div-q c = rw (c .size2 .ensures) (some-size (c .before .before .before .args .r) (c .before .before .if1 .left))
+div-q c = rw (c .size2 .ensures) (some-size (c .before .before .before .args .rhs) (c .before .before .if1 .left))
 
 is-negative-requires : tie.Need-is-negative-requires
 is-negative-requires c κs = search needs
@@ -51,13 +51,13 @@ whole-fits : (c : tie.After-size2) → whole c < 4294967296
 whole-fits c = omega (arith, div-le-self (c .before .size .result) (c .size2 .result))
 
 by-sizes : (c : tie.After-is-negative2) (same : Bool) → Bool·beq (c .before .is-negative .result) (c .is-negative2 .result) ≡ same
-    → quotient (c .before .before .before .before .before .args .l) (c .before .before .before .before .before .args .r)
+    → quotient (c .before .before .before .before .before .args .lhs) (c .before .before .before .before .before .args .rhs)
     ≡ wrapped (cond same (pos (whole (c .before .before))) (negℤ (pos (whole (c .before .before)))))
 unfolding quotient
 by-sizes c same e =
     let s = c .before .before in
     let a = s .before .before .before .args in
-    rw (sized (signed (a .l)) (signed (a .r)), ← s .before .size .ensures, ← s .size2 .ensures, ← c .before .is-negative .ensures, ← c .is-negative2 .ensures, e)
+    rw (sized (signed (a .lhs)) (signed (a .rhs)), ← s .before .size .ensures, ← s .size2 .ensures, ← c .before .is-negative .ensures, ← c .is-negative2 .ensures, e)
 
 returns-2 : tie.Need-returns-2
 returns-2 c = sym (mod-eq-of-lt (whole-fits (c .before .before .before))) ∙ sym (by-sizes (c .before) true (c .if2 .taken))

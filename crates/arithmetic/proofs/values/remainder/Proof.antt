@@ -13,13 +13,13 @@ use Rattle.arithmetic.proofs.Signs.{by-sign, some-size, turned}
 use Rattle.arithmetic.proofs.values.remainder.Statement.{statement}
 use Rattle.arithmetic.proofs.values.remainder.Tie as tie
 
-over-zero : (l : ℕ) → l < 4294967296 → l ≡ wrapped (remZ (signed l) (pos 0))
-over-zero l fits =
-    by-sign (λ z. l ≡ wrapped (remZ z (pos 0))) l (λ low. rw mod-zero (omega arith)) (λ high. rw mod-zero (omega arith))
+over-zero : (lhs : ℕ) → lhs < 4294967296 → lhs ≡ wrapped (remZ (signed lhs) (pos 0))
+over-zero lhs fits =
+    by-sign (λ z. lhs ≡ wrapped (remZ z (pos 0))) lhs (λ low. rw mod-zero (omega arith)) (λ high. rw mod-zero (omega arith))
 
 returns : tie.Need-returns
 unfolding remainder signed
-returns c = rw (c .if1 .taken) (over-zero (c .before .args .l) (omega arith))
+returns c = rw (c .if1 .taken) (over-zero (c .before .args .lhs) (omega arith))
 
 size-requires : tie.Need-size-requires
 size-requires c κs = search needs
@@ -28,7 +28,7 @@ size-requires-2 : tie.Need-size-requires-2
 size-requires-2 c κs = search needs
 
 rem-m : tie.Need-rem-m
-rem-m c = rw (c .size2 .ensures) (some-size (c .before .before .before .args .r) (c .before .before .if1 .left))
+rem-m c = rw (c .size2 .ensures) (some-size (c .before .before .before .args .rhs) (c .before .before .if1 .left))
 
 is-negative-requires : tie.Need-is-negative-requires
 is-negative-requires c κs = search needs
@@ -48,17 +48,17 @@ rest-fits : (c : tie.After-size2) → rest c < 4294967296
 rest-fits c = omega (arith, mod-le (c .before .size .result) (c .size2 .result))
 
 -- the sign is the left side's
-negative : (c : tie.After-is-negative) → c .is-negative .result ≡ ltZ (signed (c .before .before .before .before .args .l)) (pos 0)
+negative : (c : tie.After-is-negative) → c .is-negative .result ≡ ltZ (signed (c .before .before .before .before .args .lhs)) (pos 0)
 negative c = c .is-negative .ensures
 
 by-sizes : (c : tie.After-is-negative) (below : Bool) → c .is-negative .result ≡ below
-    → remainder (c .before .before .before .before .args .l) (c .before .before .before .before .args .r)
+    → remainder (c .before .before .before .before .args .lhs) (c .before .before .before .before .args .rhs)
     ≡ wrapped (cond below (negℤ (pos (rest (c .before)))) (pos (rest (c .before))))
 unfolding remainder
 by-sizes c below e =
     let s = c .before in
     let a = s .before .before .before .args in
-    rw (sized (signed (a .l)) (signed (a .r)), ← s .before .size .ensures, ← s .size2 .ensures, ← negative c, e)
+    rw (sized (signed (a .lhs)) (signed (a .rhs)), ← s .before .size .ensures, ← s .size2 .ensures, ← negative c, e)
 
 returns-2 : tie.Need-returns-2
 returns-2 c =

@@ -1,5 +1,5 @@
 -- The levels and the operand meet their contracts: each level reads operands of the next tighter one, and a bracket's operand the
--- loosest again, one level deeper. What falls at each call is eight times the levels left and the level's own number.
+-- loosest again, one level deeper. What falls at each call is eight times the levels that may still be entered and the level's own number.
 use mathlib.Core.Bool.{not}
 use mathlib.Core.Path.{_≡_, refl, sym, ap, _∙_}
 use Prim.Native.Nat.{ℕ, _+_, _*_, _<_}
@@ -9,10 +9,10 @@ use borrow.Author.Needs.{needs}
 use borrow.Fn.Kinds.{In}
 use borrow.Fn.PlainCycle.{Measures, is, falls, and}
 use Rattle.variables.specs.Names.{namesOf}
-use Rattle.expressions.specs.Trees.{wrong, levelAt, operandAt}
-use Rattle.expressions.specs.Steps.{partOf}
+use Rattle.expressions.specs.Trees.{faulty, levelAt, operandAt}
+use Rattle.expressions.specs.inner.Steps.{linkOf, partOf}
 use Rattle.expressions.specs.declared.parts.Account.{Account}
-use Rattle.expressions.specs.declared.tokens.Token.the-variants.{End, Number, BadNumber, Name, Close, Strange}
+use Rattle.expressions.specs.declared.tokens.Token.the-variants.{End, Number, FaultyNumber, Name, Close, Strange}
 use Rattle.expressions.proofs.Chains.{remaining, Chain, begins, goes-on, ends, falls as falls-behind}
 use Rattle.expressions.proofs.Operands.{starts-with, name-stands, misplaced, operator-too-deep, operator-covers, bracket-too-deep, bracket-covers}
 use Rattle.expressions.proofs.levels.conjunction.Reads as conjunction
@@ -164,11 +164,11 @@ disjunction-calls t = (
 
 -- A level: its invariant is the part so far as a tree from which the level goes on, whatever the account was at its start
 abbrev term-Inv-loop : term-lts.InvT-loop
-term-Inv-loop text table index levels at left₀ left =
-    (account : Account) → left₀ ≡ partOf (namesOf table) account (levelAt text 0 (operandAt text levels) at) → Chain (namesOf table) text 0 levels account at left
+term-Inv-loop text table keys levels at lhs₀ lhs =
+    (account : Account) → lhs₀ ≡ partOf (namesOf table) account (levelAt text 0 (operandAt text levels) at) → Chain (namesOf table) text 0 levels account at lhs
 
 abbrev term-μ-loop : term-lts.MeasureT-loop
-term-μ-loop text table index levels at left₀ left = remaining (length text) left
+term-μ-loop text table keys levels at lhs₀ lhs = remaining (length text) lhs
 
 term-operand-requires : (t : ℕ) → term-lts.Need-operand-requires (term-calls t) (term-at t) term.Post term-Inv-loop term-μ-loop
 term-operand-requires t c κs = (omega (arith, c .before .before .before .pre .0), c .before .before .before .pre .1)
@@ -186,7 +186,7 @@ term-returns : (t : ℕ) → term-lts.Need-returns (term-calls t) (term-at t) te
 term-returns t c =
     let a = c .before .before .before .before .before .before .before .before .args in
     ends (namesOf (a .table .now)) (a .text .now) 0 (a .levels) (a .account) (a .at) _ (c .before .before .before .loop .inv (a .account) (c .before .before .before .before .operand .ensures))
-    (sym (c .before .before .operator-behind .ensures) ∙ c .enum-told .given .1)
+    (sym (c .before .before .operator-behind .ensures) ∙ ap linkOf (c .enum-told .given .1))
 
 term-enum-known-operator : (t : ℕ) → term-lts.Need-enum-known-operator (term-calls t) (term-at t) term.Post term-Inv-loop term-μ-loop
 term-enum-known-operator t c = search needs
@@ -203,23 +203,23 @@ term-joined-requires t c κs = search needs
 term-loop-less : (t : ℕ) → term-lts.Need-loop-less (term-calls t) (term-at t) term.Post term-Inv-loop term-μ-loop
 term-loop-less t c =
     let a = c .before .before .before .before .before .before .before .before .before .before .before .before .args in
-    falls-behind (namesOf (a .table .now)) (a .text .now) 0 (a .levels) (c .before .before .before .before .operator .given .0 .0) (c .before .before .before .before .operator .given .0 .1 .0) (c .before .before .before .before .operator .given .0 .1 .1 .0) _ (c .before .before .before .before .before .before .before .loop .left) _ _
-    (sym (c .before .before .before .before .before .before .operator-behind .ensures) ∙ c .before .before .before .before .operator .given .1)
+    falls-behind (namesOf (a .table .now)) (a .text .now) 0 (a .levels) (c .before .before .before .before .operator .given .0 .0) (c .before .before .before .before .operator .given .0 .1 .0) (c .before .before .before .before .operator .given .0 .1 .1 .0) _ (c .before .before .before .before .before .before .before .loop .lhs) _ _
+    (sym (c .before .before .before .before .before .before .operator-behind .ensures) ∙ ap linkOf (c .before .before .before .before .operator .given .1))
     (c .before .operand2 .ensures) (c .joined .ensures)
 
 term-loop-again : (t : ℕ) → term-lts.Need-loop-again (term-calls t) (term-at t) term.Post term-Inv-loop term-μ-loop
 term-loop-again t c =
     let a = c .before .before .before .before .before .before .before .before .before .before .before .before .args in
-    λ account e. goes-on (namesOf (a .table .now)) (a .text .now) 0 (a .levels) account (a .at) (c .before .before .before .before .operator .given .0 .0) (c .before .before .before .before .operator .given .0 .1 .0) (c .before .before .before .before .operator .given .0 .1 .1 .0) (c .before .before .before .before .before .before .before .loop .left) _ _ (c .before .before .before .before .before .before .before .loop .inv account e)
-    (sym (c .before .before .before .before .before .before .operator-behind .ensures) ∙ c .before .before .before .before .operator .given .1)
+    λ account e. goes-on (namesOf (a .table .now)) (a .text .now) 0 (a .levels) account (a .at) (c .before .before .before .before .operator .given .0 .0) (c .before .before .before .before .operator .given .0 .1 .0) (c .before .before .before .before .operator .given .0 .1 .1 .0) (c .before .before .before .before .before .before .before .loop .lhs) _ _ (c .before .before .before .before .before .before .before .loop .inv account e)
+    (sym (c .before .before .before .before .before .before .operator-behind .ensures) ∙ ap linkOf (c .before .before .before .before .operator .given .1))
     (c .before .operand2 .ensures ∙ ap (λ x. partOf (namesOf (a .table .now)) x (levelAt (a .text .now) 0 (operandAt (a .text .now) (a .levels)) (c .before .before .before .before .operator .given .0 .1 .1 .0))) (c .before .before .account-of .ensures)) (c .joined .ensures)
 
 abbrev sum-Inv-loop : sum-lts.InvT-loop
-sum-Inv-loop text table index levels at left₀ left =
-    (account : Account) → left₀ ≡ partOf (namesOf table) account (levelAt text 1 (operandAt text levels) at) → Chain (namesOf table) text 1 levels account at left
+sum-Inv-loop text table keys levels at lhs₀ lhs =
+    (account : Account) → lhs₀ ≡ partOf (namesOf table) account (levelAt text 1 (operandAt text levels) at) → Chain (namesOf table) text 1 levels account at lhs
 
 abbrev sum-μ-loop : sum-lts.MeasureT-loop
-sum-μ-loop text table index levels at left₀ left = remaining (length text) left
+sum-μ-loop text table keys levels at lhs₀ lhs = remaining (length text) lhs
 
 sum-term-requires : (t : ℕ) → sum-lts.Need-term-requires (sum-calls t) (sum-at t) sum.Post sum-Inv-loop sum-μ-loop
 sum-term-requires t c κs = (omega (arith, c .before .before .before .pre .0), c .before .before .before .pre .1)
@@ -237,7 +237,7 @@ sum-returns : (t : ℕ) → sum-lts.Need-returns (sum-calls t) (sum-at t) sum.Po
 sum-returns t c =
     let a = c .before .before .before .before .before .before .before .before .args in
     ends (namesOf (a .table .now)) (a .text .now) 1 (a .levels) (a .account) (a .at) _ (c .before .before .before .loop .inv (a .account) (c .before .before .before .before .term .ensures))
-    (sym (c .before .before .operator-behind .ensures) ∙ c .enum-told .given .1)
+    (sym (c .before .before .operator-behind .ensures) ∙ ap linkOf (c .enum-told .given .1))
 
 sum-enum-known-operator : (t : ℕ) → sum-lts.Need-enum-known-operator (sum-calls t) (sum-at t) sum.Post sum-Inv-loop sum-μ-loop
 sum-enum-known-operator t c = search needs
@@ -254,23 +254,23 @@ sum-joined-requires t c κs = search needs
 sum-loop-less : (t : ℕ) → sum-lts.Need-loop-less (sum-calls t) (sum-at t) sum.Post sum-Inv-loop sum-μ-loop
 sum-loop-less t c =
     let a = c .before .before .before .before .before .before .before .before .before .before .before .before .args in
-    falls-behind (namesOf (a .table .now)) (a .text .now) 1 (a .levels) (c .before .before .before .before .operator .given .0 .0) (c .before .before .before .before .operator .given .0 .1 .0) (c .before .before .before .before .operator .given .0 .1 .1 .0) _ (c .before .before .before .before .before .before .before .loop .left) _ _
-    (sym (c .before .before .before .before .before .before .operator-behind .ensures) ∙ c .before .before .before .before .operator .given .1)
+    falls-behind (namesOf (a .table .now)) (a .text .now) 1 (a .levels) (c .before .before .before .before .operator .given .0 .0) (c .before .before .before .before .operator .given .0 .1 .0) (c .before .before .before .before .operator .given .0 .1 .1 .0) _ (c .before .before .before .before .before .before .before .loop .lhs) _ _
+    (sym (c .before .before .before .before .before .before .operator-behind .ensures) ∙ ap linkOf (c .before .before .before .before .operator .given .1))
     (c .before .term2 .ensures) (c .joined .ensures)
 
 sum-loop-again : (t : ℕ) → sum-lts.Need-loop-again (sum-calls t) (sum-at t) sum.Post sum-Inv-loop sum-μ-loop
 sum-loop-again t c =
     let a = c .before .before .before .before .before .before .before .before .before .before .before .before .args in
-    λ account e. goes-on (namesOf (a .table .now)) (a .text .now) 1 (a .levels) account (a .at) (c .before .before .before .before .operator .given .0 .0) (c .before .before .before .before .operator .given .0 .1 .0) (c .before .before .before .before .operator .given .0 .1 .1 .0) (c .before .before .before .before .before .before .before .loop .left) _ _ (c .before .before .before .before .before .before .before .loop .inv account e)
-    (sym (c .before .before .before .before .before .before .operator-behind .ensures) ∙ c .before .before .before .before .operator .given .1)
+    λ account e. goes-on (namesOf (a .table .now)) (a .text .now) 1 (a .levels) account (a .at) (c .before .before .before .before .operator .given .0 .0) (c .before .before .before .before .operator .given .0 .1 .0) (c .before .before .before .before .operator .given .0 .1 .1 .0) (c .before .before .before .before .before .before .before .loop .lhs) _ _ (c .before .before .before .before .before .before .before .loop .inv account e)
+    (sym (c .before .before .before .before .before .before .operator-behind .ensures) ∙ ap linkOf (c .before .before .before .before .operator .given .1))
     (c .before .term2 .ensures ∙ ap (λ x. partOf (namesOf (a .table .now)) x (levelAt (a .text .now) 1 (operandAt (a .text .now) (a .levels)) (c .before .before .before .before .operator .given .0 .1 .1 .0))) (c .before .before .account-of .ensures)) (c .joined .ensures)
 
 abbrev relation-Inv-loop : relation-lts.InvT-loop
-relation-Inv-loop text table index levels at left₀ left =
-    (account : Account) → left₀ ≡ partOf (namesOf table) account (levelAt text 2 (operandAt text levels) at) → Chain (namesOf table) text 2 levels account at left
+relation-Inv-loop text table keys levels at lhs₀ lhs =
+    (account : Account) → lhs₀ ≡ partOf (namesOf table) account (levelAt text 2 (operandAt text levels) at) → Chain (namesOf table) text 2 levels account at lhs
 
 abbrev relation-μ-loop : relation-lts.MeasureT-loop
-relation-μ-loop text table index levels at left₀ left = remaining (length text) left
+relation-μ-loop text table keys levels at lhs₀ lhs = remaining (length text) lhs
 
 relation-sum-requires : (t : ℕ) → relation-lts.Need-sum-requires (relation-calls t) (relation-at t) relation.Post relation-Inv-loop relation-μ-loop
 relation-sum-requires t c κs = (omega (arith, c .before .before .before .pre .0), c .before .before .before .pre .1)
@@ -288,7 +288,7 @@ relation-returns : (t : ℕ) → relation-lts.Need-returns (relation-calls t) (r
 relation-returns t c =
     let a = c .before .before .before .before .before .before .before .before .args in
     ends (namesOf (a .table .now)) (a .text .now) 2 (a .levels) (a .account) (a .at) _ (c .before .before .before .loop .inv (a .account) (c .before .before .before .before .sum .ensures))
-    (sym (c .before .before .operator-behind .ensures) ∙ c .enum-told .given .1)
+    (sym (c .before .before .operator-behind .ensures) ∙ ap linkOf (c .enum-told .given .1))
 
 relation-enum-known-operator : (t : ℕ) → relation-lts.Need-enum-known-operator (relation-calls t) (relation-at t) relation.Post relation-Inv-loop relation-μ-loop
 relation-enum-known-operator t c = search needs
@@ -305,23 +305,23 @@ relation-joined-requires t c κs = search needs
 relation-loop-less : (t : ℕ) → relation-lts.Need-loop-less (relation-calls t) (relation-at t) relation.Post relation-Inv-loop relation-μ-loop
 relation-loop-less t c =
     let a = c .before .before .before .before .before .before .before .before .before .before .before .before .args in
-    falls-behind (namesOf (a .table .now)) (a .text .now) 2 (a .levels) (c .before .before .before .before .operator .given .0 .0) (c .before .before .before .before .operator .given .0 .1 .0) (c .before .before .before .before .operator .given .0 .1 .1 .0) _ (c .before .before .before .before .before .before .before .loop .left) _ _
-    (sym (c .before .before .before .before .before .before .operator-behind .ensures) ∙ c .before .before .before .before .operator .given .1)
+    falls-behind (namesOf (a .table .now)) (a .text .now) 2 (a .levels) (c .before .before .before .before .operator .given .0 .0) (c .before .before .before .before .operator .given .0 .1 .0) (c .before .before .before .before .operator .given .0 .1 .1 .0) _ (c .before .before .before .before .before .before .before .loop .lhs) _ _
+    (sym (c .before .before .before .before .before .before .operator-behind .ensures) ∙ ap linkOf (c .before .before .before .before .operator .given .1))
     (c .before .sum2 .ensures) (c .joined .ensures)
 
 relation-loop-again : (t : ℕ) → relation-lts.Need-loop-again (relation-calls t) (relation-at t) relation.Post relation-Inv-loop relation-μ-loop
 relation-loop-again t c =
     let a = c .before .before .before .before .before .before .before .before .before .before .before .before .args in
-    λ account e. goes-on (namesOf (a .table .now)) (a .text .now) 2 (a .levels) account (a .at) (c .before .before .before .before .operator .given .0 .0) (c .before .before .before .before .operator .given .0 .1 .0) (c .before .before .before .before .operator .given .0 .1 .1 .0) (c .before .before .before .before .before .before .before .loop .left) _ _ (c .before .before .before .before .before .before .before .loop .inv account e)
-    (sym (c .before .before .before .before .before .before .operator-behind .ensures) ∙ c .before .before .before .before .operator .given .1)
+    λ account e. goes-on (namesOf (a .table .now)) (a .text .now) 2 (a .levels) account (a .at) (c .before .before .before .before .operator .given .0 .0) (c .before .before .before .before .operator .given .0 .1 .0) (c .before .before .before .before .operator .given .0 .1 .1 .0) (c .before .before .before .before .before .before .before .loop .lhs) _ _ (c .before .before .before .before .before .before .before .loop .inv account e)
+    (sym (c .before .before .before .before .before .before .operator-behind .ensures) ∙ ap linkOf (c .before .before .before .before .operator .given .1))
     (c .before .sum2 .ensures ∙ ap (λ x. partOf (namesOf (a .table .now)) x (levelAt (a .text .now) 2 (operandAt (a .text .now) (a .levels)) (c .before .before .before .before .operator .given .0 .1 .1 .0))) (c .before .before .account-of .ensures)) (c .joined .ensures)
 
 abbrev conjunction-Inv-loop : conjunction-lts.InvT-loop
-conjunction-Inv-loop text table index levels at left₀ left =
-    (account : Account) → left₀ ≡ partOf (namesOf table) account (levelAt text 3 (operandAt text levels) at) → Chain (namesOf table) text 3 levels account at left
+conjunction-Inv-loop text table keys levels at lhs₀ lhs =
+    (account : Account) → lhs₀ ≡ partOf (namesOf table) account (levelAt text 3 (operandAt text levels) at) → Chain (namesOf table) text 3 levels account at lhs
 
 abbrev conjunction-μ-loop : conjunction-lts.MeasureT-loop
-conjunction-μ-loop text table index levels at left₀ left = remaining (length text) left
+conjunction-μ-loop text table keys levels at lhs₀ lhs = remaining (length text) lhs
 
 conjunction-relation-requires : (t : ℕ) → conjunction-lts.Need-relation-requires (conjunction-calls t) (conjunction-at t) conjunction.Post conjunction-Inv-loop conjunction-μ-loop
 conjunction-relation-requires t c κs = (omega (arith, c .before .before .before .pre .0), c .before .before .before .pre .1)
@@ -339,7 +339,7 @@ conjunction-returns : (t : ℕ) → conjunction-lts.Need-returns (conjunction-ca
 conjunction-returns t c =
     let a = c .before .before .before .before .before .before .before .before .args in
     ends (namesOf (a .table .now)) (a .text .now) 3 (a .levels) (a .account) (a .at) _ (c .before .before .before .loop .inv (a .account) (c .before .before .before .before .relation .ensures))
-    (sym (c .before .before .operator-behind .ensures) ∙ c .enum-told .given .1)
+    (sym (c .before .before .operator-behind .ensures) ∙ ap linkOf (c .enum-told .given .1))
 
 conjunction-enum-known-operator : (t : ℕ) → conjunction-lts.Need-enum-known-operator (conjunction-calls t) (conjunction-at t) conjunction.Post conjunction-Inv-loop conjunction-μ-loop
 conjunction-enum-known-operator t c = search needs
@@ -356,23 +356,23 @@ conjunction-joined-requires t c κs = search needs
 conjunction-loop-less : (t : ℕ) → conjunction-lts.Need-loop-less (conjunction-calls t) (conjunction-at t) conjunction.Post conjunction-Inv-loop conjunction-μ-loop
 conjunction-loop-less t c =
     let a = c .before .before .before .before .before .before .before .before .before .before .before .before .args in
-    falls-behind (namesOf (a .table .now)) (a .text .now) 3 (a .levels) (c .before .before .before .before .operator .given .0 .0) (c .before .before .before .before .operator .given .0 .1 .0) (c .before .before .before .before .operator .given .0 .1 .1 .0) _ (c .before .before .before .before .before .before .before .loop .left) _ _
-    (sym (c .before .before .before .before .before .before .operator-behind .ensures) ∙ c .before .before .before .before .operator .given .1)
+    falls-behind (namesOf (a .table .now)) (a .text .now) 3 (a .levels) (c .before .before .before .before .operator .given .0 .0) (c .before .before .before .before .operator .given .0 .1 .0) (c .before .before .before .before .operator .given .0 .1 .1 .0) _ (c .before .before .before .before .before .before .before .loop .lhs) _ _
+    (sym (c .before .before .before .before .before .before .operator-behind .ensures) ∙ ap linkOf (c .before .before .before .before .operator .given .1))
     (c .before .relation2 .ensures) (c .joined .ensures)
 
 conjunction-loop-again : (t : ℕ) → conjunction-lts.Need-loop-again (conjunction-calls t) (conjunction-at t) conjunction.Post conjunction-Inv-loop conjunction-μ-loop
 conjunction-loop-again t c =
     let a = c .before .before .before .before .before .before .before .before .before .before .before .before .args in
-    λ account e. goes-on (namesOf (a .table .now)) (a .text .now) 3 (a .levels) account (a .at) (c .before .before .before .before .operator .given .0 .0) (c .before .before .before .before .operator .given .0 .1 .0) (c .before .before .before .before .operator .given .0 .1 .1 .0) (c .before .before .before .before .before .before .before .loop .left) _ _ (c .before .before .before .before .before .before .before .loop .inv account e)
-    (sym (c .before .before .before .before .before .before .operator-behind .ensures) ∙ c .before .before .before .before .operator .given .1)
+    λ account e. goes-on (namesOf (a .table .now)) (a .text .now) 3 (a .levels) account (a .at) (c .before .before .before .before .operator .given .0 .0) (c .before .before .before .before .operator .given .0 .1 .0) (c .before .before .before .before .operator .given .0 .1 .1 .0) (c .before .before .before .before .before .before .before .loop .lhs) _ _ (c .before .before .before .before .before .before .before .loop .inv account e)
+    (sym (c .before .before .before .before .before .before .operator-behind .ensures) ∙ ap linkOf (c .before .before .before .before .operator .given .1))
     (c .before .relation2 .ensures ∙ ap (λ x. partOf (namesOf (a .table .now)) x (levelAt (a .text .now) 3 (operandAt (a .text .now) (a .levels)) (c .before .before .before .before .operator .given .0 .1 .1 .0))) (c .before .before .account-of .ensures)) (c .joined .ensures)
 
 abbrev disjunction-Inv-loop : disjunction-lts.InvT-loop
-disjunction-Inv-loop text table index levels at left₀ left =
-    (account : Account) → left₀ ≡ partOf (namesOf table) account (levelAt text 4 (operandAt text levels) at) → Chain (namesOf table) text 4 levels account at left
+disjunction-Inv-loop text table keys levels at lhs₀ lhs =
+    (account : Account) → lhs₀ ≡ partOf (namesOf table) account (levelAt text 4 (operandAt text levels) at) → Chain (namesOf table) text 4 levels account at lhs
 
 abbrev disjunction-μ-loop : disjunction-lts.MeasureT-loop
-disjunction-μ-loop text table index levels at left₀ left = remaining (length text) left
+disjunction-μ-loop text table keys levels at lhs₀ lhs = remaining (length text) lhs
 
 disjunction-conjunction-requires : (t : ℕ) → disjunction-lts.Need-conjunction-requires (disjunction-calls t) (disjunction-at t) disjunction.Post disjunction-Inv-loop disjunction-μ-loop
 disjunction-conjunction-requires t c κs = (omega (arith, c .before .before .before .pre .0), c .before .before .before .pre .1)
@@ -390,7 +390,7 @@ disjunction-returns : (t : ℕ) → disjunction-lts.Need-returns (disjunction-ca
 disjunction-returns t c =
     let a = c .before .before .before .before .before .before .before .before .args in
     ends (namesOf (a .table .now)) (a .text .now) 4 (a .levels) (a .account) (a .at) _ (c .before .before .before .loop .inv (a .account) (c .before .before .before .before .conjunction .ensures))
-    (sym (c .before .before .operator-behind .ensures) ∙ c .enum-told .given .1)
+    (sym (c .before .before .operator-behind .ensures) ∙ ap linkOf (c .enum-told .given .1))
 
 disjunction-enum-known-operator : (t : ℕ) → disjunction-lts.Need-enum-known-operator (disjunction-calls t) (disjunction-at t) disjunction.Post disjunction-Inv-loop disjunction-μ-loop
 disjunction-enum-known-operator t c = search needs
@@ -407,15 +407,15 @@ disjunction-joined-requires t c κs = search needs
 disjunction-loop-less : (t : ℕ) → disjunction-lts.Need-loop-less (disjunction-calls t) (disjunction-at t) disjunction.Post disjunction-Inv-loop disjunction-μ-loop
 disjunction-loop-less t c =
     let a = c .before .before .before .before .before .before .before .before .before .before .before .before .args in
-    falls-behind (namesOf (a .table .now)) (a .text .now) 4 (a .levels) (c .before .before .before .before .operator .given .0 .0) (c .before .before .before .before .operator .given .0 .1 .0) (c .before .before .before .before .operator .given .0 .1 .1 .0) _ (c .before .before .before .before .before .before .before .loop .left) _ _
-    (sym (c .before .before .before .before .before .before .operator-behind .ensures) ∙ c .before .before .before .before .operator .given .1)
+    falls-behind (namesOf (a .table .now)) (a .text .now) 4 (a .levels) (c .before .before .before .before .operator .given .0 .0) (c .before .before .before .before .operator .given .0 .1 .0) (c .before .before .before .before .operator .given .0 .1 .1 .0) _ (c .before .before .before .before .before .before .before .loop .lhs) _ _
+    (sym (c .before .before .before .before .before .before .operator-behind .ensures) ∙ ap linkOf (c .before .before .before .before .operator .given .1))
     (c .before .conjunction2 .ensures) (c .joined .ensures)
 
 disjunction-loop-again : (t : ℕ) → disjunction-lts.Need-loop-again (disjunction-calls t) (disjunction-at t) disjunction.Post disjunction-Inv-loop disjunction-μ-loop
 disjunction-loop-again t c =
     let a = c .before .before .before .before .before .before .before .before .before .before .before .before .args in
-    λ account e. goes-on (namesOf (a .table .now)) (a .text .now) 4 (a .levels) account (a .at) (c .before .before .before .before .operator .given .0 .0) (c .before .before .before .before .operator .given .0 .1 .0) (c .before .before .before .before .operator .given .0 .1 .1 .0) (c .before .before .before .before .before .before .before .loop .left) _ _ (c .before .before .before .before .before .before .before .loop .inv account e)
-    (sym (c .before .before .before .before .before .before .operator-behind .ensures) ∙ c .before .before .before .before .operator .given .1)
+    λ account e. goes-on (namesOf (a .table .now)) (a .text .now) 4 (a .levels) account (a .at) (c .before .before .before .before .operator .given .0 .0) (c .before .before .before .before .operator .given .0 .1 .0) (c .before .before .before .before .operator .given .0 .1 .1 .0) (c .before .before .before .before .before .before .before .loop .lhs) _ _ (c .before .before .before .before .before .before .before .loop .inv account e)
+    (sym (c .before .before .before .before .before .before .operator-behind .ensures) ∙ ap linkOf (c .before .before .before .before .operator .given .1))
     (c .before .conjunction2 .ensures ∙ ap (λ x. partOf (namesOf (a .table .now)) x (levelAt (a .text .now) 4 (operandAt (a .text .now) (a .levels)) (c .before .before .before .before .operator .given .0 .1 .1 .0))) (c .before .before .account-of .ensures)) (c .joined .ensures)
 
 abbrev operand-calls : ℕ → operand-lts.Claims
@@ -564,7 +564,7 @@ operand-returns-5 : (t : ℕ) → operand-lts.Need-returns-5 (operand-calls t) (
 operand-returns-5 t c =
     let a = c .before .before .before .before .before .before .before .args in
     starts-with (namesOf (a .table .now)) (a .text .now) (a .account) (a .levels) (a .at) _ (c .before .before .before .token-at .ensures)
-    (BadNumber _ _) (wrong _ _) _ (c .before .token2 .given .1) refl refl
+    (FaultyNumber _ _) (faulty _ _) _ (c .before .token2 .given .1) refl refl
 
 operand-returns-6 : (t : ℕ) → operand-lts.Need-returns-6 (operand-calls t) (operand-at t) operand.Post
 operand-returns-6 t c =
@@ -588,19 +588,19 @@ operand-returns-9 : (t : ℕ) → operand-lts.Need-returns-9 (operand-calls t) (
 operand-returns-9 t c =
     let a = c .before .before .before .before .before .before .before .args in
     starts-with (namesOf (a .table .now)) (a .text .now) (a .account) (a .levels) (a .at) _ (c .before .before .before .token-at .ensures)
-    End (wrong _ _) _ (c .before .enum-told3 .given .1) refl (c .bad2 .ensures)
+    End (faulty _ _) _ (c .before .enum-told3 .given .1) refl (c .bad2 .ensures)
 
 operand-returns-10 : (t : ℕ) → operand-lts.Need-returns-10 (operand-calls t) (operand-at t) operand.Post
 operand-returns-10 t c =
     let a = c .before .before .before .before .before .before .before .args in
     starts-with (namesOf (a .table .now)) (a .text .now) (a .account) (a .levels) (a .at) _ (c .before .before .before .token-at .ensures)
-    Close (wrong _ _) _ (c .before .enum-told4 .given .1) refl (c .bad3 .ensures)
+    Close (faulty _ _) _ (c .before .enum-told4 .given .1) refl (c .bad3 .ensures)
 
 operand-returns-11 : (t : ℕ) → operand-lts.Need-returns-11 (operand-calls t) (operand-at t) operand.Post
 operand-returns-11 t c =
     let a = c .before .before .before .before .before .before .before .args in
     starts-with (namesOf (a .table .now)) (a .text .now) (a .account) (a .levels) (a .at) _ (c .before .before .before .token-at .ensures)
-    Strange (wrong _ _) _ (c .before .enum-told5 .given .1) refl (c .bad4 .ensures)
+    Strange (faulty _ _) _ (c .before .enum-told5 .given .1) refl (c .bad4 .ensures)
 
 pub +conjunction+disjunction+operand+relation+sum+term-spec : {M : Type 1} → statement M
 +conjunction+disjunction+operand+relation+sum+term-spec =

@@ -6,30 +6,29 @@ use denote.Enum.Declared.{tagOf}
 use types.Run.{OneOf, miss}
 use Rattle.paper.proofs.Choice.{same, other}
 use Rattle.arithmetic.specs.Operators.{levelOf}
-use Rattle.expressions.specs.Trees.{bindingBy}
+use Rattle.expressions.specs.Trees.{binds, none, linkBy}
 use Rattle.arithmetic.specs.declared.operators.Operator.{Operator}
 use Rattle.expressions.specs.declared.tokens.Token.{Token}
-use Rattle.expressions.specs.declared.tokens.Token.the-variants.{End, Operator as Operates, Number, BadNumber, Name, Open, Close, Strange}
-use Rattle.expressions.specs.declared.levels.Behind.the-variants.{Binds, Other}
+use Rattle.expressions.specs.declared.tokens.Token.the-variants.{End, Operator as Operates, Number, FaultyNumber, Name, Open, Close, Strange}
 use Rattle.expressions.proofs.tokens.Token as Token
 use borrow.Author.Needs.{needs}
 use Rattle.expressions.proofs.levels.binding.Statement.{statement}
 use Rattle.expressions.proofs.levels.binding.Tie as tie
 
-module _ (level at next : ℕ) where
-  binds : (operator : Operator) (token : Token) → token ≡ Operates operator → levelOf operator ≡ level
-      → Binds operator at next ≡ bindingBy level token at next
-  binds operator token t e = same (levelOf operator) level _ _ e refl ∙ ap (λ k. bindingBy level k at next) (sym t)
+module _ (level place next : ℕ) where
+  bound : (operator : Operator) (token : Token) → token ≡ Operates operator → levelOf operator ≡ level
+      → binds operator place next ≡ linkBy level token place next
+  bound operator token t e = same (levelOf operator) level _ _ e refl ∙ ap (λ k. linkBy level k place next) (sym t)
 
   loose : (operator : Operator) (token : Token) → token ≡ Operates operator → (levelOf operator ≡ level → ⊥)
-      → Other ≡ bindingBy level token at next
-  loose operator token t n = other (levelOf operator) level _ _ n refl ∙ ap (λ k. bindingBy level k at next) (sym t)
+      → none ≡ linkBy level token place next
+  loose operator token t n = other (levelOf operator) level _ _ n refl ∙ ap (λ k. linkBy level k place next) (sym t)
 
-  no-operator : (token : Token) → OneOf (0 ∷ 2 ∷ 3 ∷ 4 ∷ 5 ∷ 6 ∷ 7 ∷ []) (tagOf Token.the-type token) → Other ≡ bindingBy level token at next
+  no-operator : (token : Token) → OneOf (0 ∷ 2 ∷ 3 ∷ 4 ∷ 5 ∷ 6 ∷ 7 ∷ []) (tagOf Token.the-type token) → none ≡ linkBy level token place next
   no-operator (Operates operator) o = absurd (miss (0 ∷ 2 ∷ 3 ∷ 4 ∷ 5 ∷ 6 ∷ 7 ∷ []) 1 tt o)
   no-operator End o = refl
   no-operator (Number value) o = refl
-  no-operator (BadNumber fault place) o = refl
+  no-operator (FaultyNumber fault digit) o = refl
   no-operator Name o = refl
   no-operator Open o = refl
   no-operator Close o = refl
@@ -42,7 +41,7 @@ level-requires : tie.Need-level-requires
 level-requires c κs = search needs
 
 returns : tie.Need-returns
-returns c = binds _ _ _ _ _ (c .before .before .before .token .given .1) (sym (c .before .level .ensures) ∙ c .if1 .taken)
+returns c = bound _ _ _ _ _ (c .before .before .before .token .given .1) (sym (c .before .level .ensures) ∙ c .if1 .taken)
 
 returns-2 : tie.Need-returns-2
 returns-2 c = loose _ _ _ _ _ (c .before .before .before .token .given .1) (λ e. c .if1 .left (c .before .level .ensures ∙ e))
@@ -50,7 +49,7 @@ returns-2 c = loose _ _ _ _ _ (c .before .before .before .token .given .1) (λ e
 returns-3 : tie.Need-returns-3
 returns-3 c =
     let a = c .before .args in
-    no-operator (a .level) (a .lexed .at) (a .lexed .next) (a .lexed .token) (c .match .keys2)
+    no-operator (a .level) (a .lexed .place) (a .lexed .next) (a .lexed .token) (c .match .keys2)
 
 pub binding-spec : {M : Type 1} → statement M
 binding-spec = tie.close (tie.spec enum-known-token level-requires returns returns-2 returns-3)

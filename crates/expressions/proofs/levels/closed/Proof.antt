@@ -2,8 +2,8 @@
 use mathlib.Core.Path.{_≡_, refl, ap, sym, _∙_}
 use mathlib.Core.List.{List}
 use Prim.Native.Nat.{ℕ}
-use Rattle.expressions.specs.Tokens.{tokenAt}
-use Rattle.expressions.specs.Steps.{closedPartBy, closedPart}
+use Rattle.expressions.specs.Tokens.{Lexeme, tokenAt}
+use Rattle.expressions.specs.inner.Steps.{lexemeOf, closedPartBy, closedPart}
 use Rattle.expressions.specs.declared.parts.Part.{Part}
 use Rattle.expressions.specs.declared.tokens.Lexed.{Lexed}
 use borrow.Author.Needs.{needs}
@@ -11,10 +11,10 @@ use Rattle.expressions.proofs.levels.closed.Statement.{statement}
 use Rattle.expressions.proofs.levels.closed.Tie as tie
 
 by-token : (text : List ℕ) (next : ℕ) (p part : Part) (l : Lexed) (r : Part)
-    → closedPart text p ≡ closedPartBy p (tokenAt text next .token) (tokenAt text next .at) (tokenAt text next .next)
-    → part ≡ p → l ≡ tokenAt text next → r ≡ closedPartBy p (l .token) (l .at) (l .next) → r ≡ closedPart text part
+    → closedPart text p ≡ closedPartBy p (tokenAt text next .token) (tokenAt text next .place) (tokenAt text next .next)
+    → part ≡ p → lexemeOf l ≡ tokenAt text next → r ≡ closedPartBy p (l .token) (l .place) (l .next) → r ≡ closedPart text part
 by-token text next p part l r d e t h =
-    h ∙ ap (λ (l : Lexed). closedPartBy p (l .token) (l .at) (l .next)) t ∙ sym d ∙ ap (closedPart text) (sym e)
+    h ∙ ap (λ (l : Lexeme). closedPartBy p (l .token) (l .place) (l .next)) t ∙ sym d ∙ ap (closedPart text) (sym e)
 
 enum-known-part : tie.Need-enum-known-part
 enum-known-part c = search needs

@@ -2,8 +2,8 @@
 use mathlib.Core.Path.{_≡_, refl, ap, sym, _∙_}
 use mathlib.Core.List.{List}
 use Prim.Native.Nat.{ℕ}
-use Rattle.expressions.specs.Tokens.{tokenAt}
-use Rattle.expressions.specs.Steps.{endedPartBy, endedPart}
+use Rattle.expressions.specs.Tokens.{Lexeme, tokenAt}
+use Rattle.expressions.specs.inner.Steps.{lexemeOf, endedPartBy, endedPart}
 use Rattle.expressions.specs.declared.parts.Part.{Part}
 use Rattle.expressions.specs.declared.tokens.Lexed.{Lexed}
 use borrow.Author.Needs.{needs}
@@ -11,10 +11,10 @@ use Rattle.expressions.proofs.levels.ended.Statement.{statement}
 use Rattle.expressions.proofs.levels.ended.Tie as tie
 
 by-token : (text : List ℕ) (next : ℕ) (p part : Part) (l : Lexed) (r : Part)
-    → endedPart text p ≡ endedPartBy p (tokenAt text next .token) (tokenAt text next .at)
-    → part ≡ p → l ≡ tokenAt text next → r ≡ endedPartBy p (l .token) (l .at) → r ≡ endedPart text part
+    → endedPart text p ≡ endedPartBy p (tokenAt text next .token) (tokenAt text next .place)
+    → part ≡ p → lexemeOf l ≡ tokenAt text next → r ≡ endedPartBy p (l .token) (l .place) → r ≡ endedPart text part
 by-token text next p part l r d e t h =
-    h ∙ ap (λ (l : Lexed). endedPartBy p (l .token) (l .at)) t ∙ sym d ∙ ap (endedPart text) (sym e)
+    h ∙ ap (λ (l : Lexeme). endedPartBy p (l .token) (l .place)) t ∙ sym d ∙ ap (endedPart text) (sym e)
 
 enum-known-part : tie.Need-enum-known-part
 enum-known-part c = search needs

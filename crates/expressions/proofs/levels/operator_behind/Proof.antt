@@ -2,19 +2,18 @@
 use mathlib.Core.Path.{_≡_, refl, ap, sym, _∙_}
 use mathlib.Core.List.{List}
 use Prim.Native.Nat.{ℕ}
-use Rattle.expressions.specs.Tokens.{tokenAt}
-use Rattle.expressions.specs.Trees.{binding}
-use Rattle.expressions.specs.Steps.{behindPart}
-use Rattle.expressions.specs.declared.levels.Behind.{Behind}
+use Rattle.expressions.specs.Tokens.{Lexeme, tokenAt}
+use Rattle.expressions.specs.Trees.{Link, linkBy, linkAt}
+use Rattle.expressions.specs.inner.Steps.{lexemeOf, linkBehind}
 use Rattle.expressions.specs.declared.parts.Part.{Part}
 use Rattle.expressions.specs.declared.tokens.Lexed.{Lexed}
 use borrow.Author.Needs.{needs}
 use Rattle.expressions.proofs.levels.operator_behind.Statement.{statement}
 use Rattle.expressions.proofs.levels.operator_behind.Tie as tie
 
-by-token : (text : List ℕ) (level next : ℕ) (p part : Part) (l : Lexed) (r : Behind) → behindPart text level p ≡ binding level (tokenAt text next)
-    → part ≡ p → l ≡ tokenAt text next → r ≡ binding level l → r ≡ behindPart text level part
-by-token text level next p part l r d e t h = h ∙ ap (binding level) t ∙ sym d ∙ ap (behindPart text level) (sym e)
+by-token : (text : List ℕ) (level next : ℕ) (p part : Part) (l : Lexed) (k : Link) → linkBehind text level p ≡ linkAt text level next
+    → part ≡ p → lexemeOf l ≡ tokenAt text next → k ≡ linkBy level (l .token) (l .place) (l .next) → k ≡ linkBehind text level part
+by-token text level next p part l k d e t h = h ∙ ap (λ (l : Lexeme). linkBy level (l .token) (l .place) (l .next)) t ∙ sym d ∙ ap (linkBehind text level) (sym e)
 
 enum-known-part : tie.Need-enum-known-part
 enum-known-part c = search needs

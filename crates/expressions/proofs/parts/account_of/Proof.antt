@@ -1,6 +1,6 @@
 -- `account_of` meets its contract, case by case.
 use mathlib.Core.Path.{ap, sym}
-use Rattle.expressions.specs.Steps.{accountOf}
+use Rattle.expressions.specs.inner.Steps.{accountOf}
 use borrow.Author.Needs.{needs}
 use Rattle.expressions.proofs.parts.account_of.Statement.{statement}
 use Rattle.expressions.proofs.parts.account_of.Tie as tie

@@ -7,22 +7,22 @@ use Rattle.paper.specs.Refusals.{zero-divisor}
 use Rattle.paper.proofs.Choice.{hit, skip}
 use Rattle.arithmetic.specs.Operators.{divides}
 use Rattle.arithmetic.specs.Values.{binaryValue}
-use Rattle.expressions.specs.Steps.{appliedPart}
+use Rattle.expressions.specs.inner.Steps.{appliedPart}
 use Rattle.arithmetic.specs.declared.operators.Operator.{Operator}
 use Rattle.expressions.specs.declared.parts.Part.the-variants.{Value, Refused}
 use borrow.Author.Needs.{needs}
 use Rattle.expressions.proofs.parts.applied.Statement.{statement}
 use Rattle.expressions.proofs.parts.applied.Tie as tie
 
-zero-part : (operator : Operator) (place l r left next : ℕ) → (divides operator && eqb r 0) ≡ true
-    → Refused zero-divisor place next ≡ appliedPart operator place l r left next
+zero-part : (operator : Operator) (place lhs rhs left next : ℕ) → (divides operator && eqb rhs 0) ≡ true
+    → Refused zero-divisor place next ≡ appliedPart operator place lhs rhs left next
 unfolding appliedPart
-zero-part operator place l r left next t = hit (divides operator && eqb r 0) _ _ t refl
+zero-part operator place lhs rhs left next t = hit (divides operator && eqb rhs 0) _ _ t refl
 
-value-part : (operator : Operator) (place l r left next v : ℕ) → (divides operator && eqb r 0) ≡ false → v ≡ binaryValue operator l r
-    → Value v left next ≡ appliedPart operator place l r left next
+value-part : (operator : Operator) (place lhs rhs left next v : ℕ) → (divides operator && eqb rhs 0) ≡ false → v ≡ binaryValue operator lhs rhs
+    → Value v left next ≡ appliedPart operator place lhs rhs left next
 unfolding appliedPart
-value-part operator place l r left next v t h = skip (divides operator && eqb r 0) _ _ t (ap (λ x. Value x left next) h)
+value-part operator place lhs rhs left next v t h = skip (divides operator && eqb rhs 0) _ _ t (ap (λ x. Value x left next) h)
 
 divides-by-zero-requires : tie.Need-divides-by-zero-requires
 divides-by-zero-requires c κs = search needs

@@ -1,7 +1,7 @@
 -- `covered` meets its contract, case by case.
 use mathlib.Core.Path.{_≡_, ap, sym, _∙_}
 use Prim.Native.Nat.{ℕ}
-use Rattle.expressions.specs.Steps.{coveredPart}
+use Rattle.expressions.specs.inner.Steps.{coveredPart}
 use Rattle.arithmetic.specs.Values.{unaryValue}
 use Rattle.arithmetic.specs.declared.operators.Operator.{Operator}
 use Rattle.expressions.specs.declared.parts.Part.{Part}

@@ -10,7 +10,7 @@ divides-requires : tie.Need-divides-requires
 divides-requires c κs = search needs
 
 returns : tie.Need-returns
-returns c = ap (λ b. b && eqb (c .before .before .args .r) 0) (sym (c .if1 .taken) ∙ c .before .divides .ensures)
+returns c = ap (λ b. b && eqb (c .before .before .args .rhs) 0) (sym (c .if1 .taken) ∙ c .before .divides .ensures)
 
 returns-2 : tie.Need-returns-2
 returns-2 c = search needs

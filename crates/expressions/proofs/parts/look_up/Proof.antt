@@ -1,95 +1,88 @@
 -- `look_up` meets its contract: what was found is what the name means.
 use mathlib.Core.List.{List}
-use mathlib.Core.Path.{_≡_, refl, ap, ap₂, sym, _∙_}
+use mathlib.Core.Path.{_≡_, refl, ap, sym, _∙_}
 use Prim.Native.Nat.{ℕ, zero, suc, _-_}
 use native.Mathlib.Omega.{arith}
 use borrow.Author.Needs.{needs}
-use borrow.Author.Tests.{eqb-true}
-use lib.Dec.{eqb}
 use lib.ListN.{take, drop}
-use Rattle.paper.specs.Refusals.{unknown-name, not-an-integer, allowance-spent}
+use Rattle.paper.specs.Refusals.{unknown-name, allowance-spent}
 use Rattle.paper.specs.Traces.{run, ended}
-use Rattle.paper.proofs.Choice.{clash, either, same, other}
-use Rattle.variables.specs.Records as Records
-use Rattle.variables.specs.Records.{Entry, nothing, means}
-use Rattle.variables.specs.Tables.{variableAt, foundAs, meaningOf}
-use Rattle.variables.specs.Names.{Meaning, integer-of, pattern, meant, inReading}
-use Rattle.variables.specs.declared.Found.{Found}
-use Rattle.variables.specs.declared.Found.the-variants.{At, Nothing, Unsound}
+use Rattle.paper.proofs.Choice.{clash}
+use Rattle.variables.specs.Records.{Sought, absent, present}
+use Rattle.variables.specs.Tables.{kindOf, variableAt, soughtIn}
+use Rattle.variables.specs.Names.{Meaning, integer-of, pattern, valueAs, meant, inReading}
+use Rattle.variables.specs.inner.Keys.{matchAs}
+use Rattle.variables.specs.declared.Match.{Match}
+use Rattle.variables.specs.declared.Match.the-variants.{Record, Missing}
 use Rattle.variables.specs.declared.Variable.{Variable}
-use Rattle.variables.proofs.Indexed.{indexed}
-use Rattle.variables.proofs.Own.{Own, meaning-own, own-value}
-use Rattle.expressions.specs.Evaluations.{named, integerOf}
-use Rattle.expressions.specs.Steps.{partBy}
+use Rattle.variables.specs.declared.kinds.Kind.{Kind}
+use Rattle.variables.specs.declared.kinds.Kind.the-variants.{Text, Integer, Macro}
+use Rattle.variables.proofs.KeysFind.{sought-by-keys}
+use Rattle.variables.proofs.Own.{Own, sought-own, own-value}
+use Rattle.expressions.specs.Evaluations.{nameSteps, integerOf}
+use Rattle.expressions.specs.inner.Steps.{partBy}
 use Rattle.expressions.specs.declared.parts.Part.{Part}
 use Rattle.expressions.specs.declared.parts.Part.the-variants.{Value, Refused}
 use Rattle.expressions.proofs.parts.look_up.Statement.{statement}
 use Rattle.expressions.proofs.parts.look_up.Tie as tie
 
--- the part that a name makes, by what it means
+-- the bytes of a variable's value
+abbrev bytesOf : List ℕ → Variable → List ℕ
+bytesOf table v = take (v .length) (drop (v .start) table)
+
 module _ (place next left : ℕ) where
+  -- the part that a name makes, by what it means
   abbrev partFor : Meaning → Part
-  partFor m = partBy (run (named m place (ended 0)) left) (integerOf m) next
+  partFor m = partBy (run (nameSteps m place (ended 0)) left) (integerOf m) next
 
-  not-an-integer-part : (e : Entry) → (e .kind ≡ 1 → ⊥) → Refused not-an-integer place next ≡ partFor (meant e)
+  missing : (table : List ℕ) (found : Match) (s : Sought) (r : Part) → found ≡ Missing → found ≡ matchAs table s → r ≡ Refused unknown-name place next
+      → r ≡ partFor (inReading s)
+  missing table found absent r f e h = h
+  missing table found (present entry) r f e h = clash (cc)
+
+  -- a record goes by its kind, and by the value that lies in it
+  recorded : (table : List ℕ) (found : Match) (v : Variable) (kind : Kind) (s : Sought) (r : Part) → Own table s → found ≡ Record v → found ≡ matchAs table s
+      → v .kind ≡ kind → r ≡ partFor (valueAs kind (bytesOf table v)) → r ≡ partFor (inReading s)
   unfolding meant
-  not-an-integer-part e n =
-      either (λ m. Refused not-an-integer place next ≡ partFor m) (eqb (e .kind) 0) (λ _. refl)
-      (λ _. either (λ m. Refused not-an-integer place next ≡ partFor m) (eqb (e .kind) 1) (λ t. absurd (n (eqb-true (e .kind) 1 t))) (λ _. refl))
-
-  integer-part : (e : Entry) (p : Part) → e .kind ≡ 1 → p ≡ partFor (integer-of (pattern (e .value))) → p ≡ partFor (meant e)
-  unfolding meant
-  integer-part e p k h =
-      h ∙ ap partFor (other (e .kind) 0 _ _ (λ z. omega (arith, k)) (same (e .kind) 1 _ _ k refl))
-
--- by the record that was found
-module _ (table : List ℕ) (place next left : ℕ) where
-  nothing-found : (found : Found) (m : Records.Meaning) (r : Part) → found ≡ Nothing → found ≡ foundAs table m → r ≡ Refused unknown-name place next
-      → r ≡ partFor place next left (inReading m)
-  nothing-found found nothing r f e h = h
-  nothing-found found (means entry) r f e h = clash (cc)
-
-  unsound-found : (found : Found) (number : ℕ) (at : _) (m : Records.Meaning) (r : Part) → found ≡ Unsound number at → found ≡ foundAs table m
-      → r ≡ Refused unknown-name place next → r ≡ partFor place next left (inReading m)
-  unsound-found found number at nothing r f e h = h
-  unsound-found found number at (means entry) r f e h = clash (cc)
-
-  other-found : (found : Found) (v : Variable) (m : Records.Meaning) (r : Part) → found ≡ At v → found ≡ foundAs table m → (v .kind ≡ 1 → ⊥)
-      → r ≡ Refused not-an-integer place next → r ≡ partFor place next left (inReading m)
-  other-found found v nothing r f e n h = clash (cc)
-  other-found found v (means entry) r f e n h =
+  recorded table found v kind absent r o f e k h = clash (cc)
+  recorded table found v kind (present entry) r o f e k h =
       let same : v ≡ variableAt table entry = cc in
-      h ∙ not-an-integer-part place next left entry (λ k. n (ap (λ (w : Variable). w .kind) same ∙ k))
+      h ∙ ap (λ x. partFor (valueAs x (bytesOf table v))) (sym k)
+      ∙ ap (λ (w : Variable). partFor (valueAs (w .kind) (bytesOf table w))) same
+      ∙ ap (λ value. partFor (valueAs (kindOf (entry .kind)) value)) (sym (own-value table entry (o .own entry refl)))
 
-  spent-found : (found : Found) (v : Variable) (m : Records.Meaning) (r : Part) → found ≡ At v → found ≡ foundAs table m → v .kind ≡ 1 → left ≡ 0
-      → r ≡ Refused allowance-spent place next → r ≡ partFor place next left (inReading m)
-  spent-found found v nothing r f e k z h = clash (cc)
-  spent-found found v (means entry) r f e k z h =
-      let same : v ≡ variableAt table entry = cc in
-      integer-part place next left entry _ (sym (ap (λ (w : Variable). w .kind) same) ∙ k) (h ∙ ap (λ n. partFor place next n (integer-of (pattern (entry .value)))) (sym z))
+  -- an integer variable spends one look-up
+  none-left : (n : ℕ) → left ≡ 0 → Refused allowance-spent place next ≡ partFor (integer-of n)
+  none-left n z = ap (λ l. partBy (run (nameSteps (integer-of n) place (ended 0)) l) n next) (sym z)
 
--- one look-up fewer, and the value that lies in the record
-value-found : (table : List ℕ) (place next left : ℕ) (found : Found) (v : Variable) (m : Records.Meaning) (value : ℕ) → Own table m
-    → found ≡ At v → found ≡ foundAs table m → v .kind ≡ 1 → (left ≡ 0 → ⊥) → value ≡ pattern (take (v .length) (drop (v .start) table))
-    → Value value (left - 1) next ≡ partFor place next left (inReading m)
-value-found table place next left found v nothing value o f e k z h = clash (cc)
-value-found table place next zero found v (means entry) value o f e k z h = absurd (z refl)
-value-found table place next (suc left) found v (means entry) value o f e k z h =
-    let same : v ≡ variableAt table entry = cc in
-    let lies : take (v .length) (drop (v .start) table) ≡ entry .value =
-    ap (λ (w : Variable). take (w .length) (drop (w .start) table)) same ∙ sym (own-value table entry (o .own entry refl)) in
-    let fewer : suc left - 1 ≡ left = omega arith in
-    integer-part place next (suc left) entry _ (sym (ap (λ (w : Variable). w .kind) same) ∙ k)
-    (ap₂ (λ n l. Value n l next) (h ∙ ap pattern lies) fewer)
+one-spent : (place next left n : ℕ) → (left ≡ 0 → ⊥) → Value n (left - 1) next ≡ partFor place next left (integer-of n)
+one-spent place next zero n z = absurd (z refl)
+one-spent place next (suc left) n z = let fewer : suc left - 1 ≡ left = omega arith in ap (λ l. Value n l next) fewer
 
 -- where the name was looked for
 module _ (c : tie.After-find) where
   abbrev start : tie.Start
   start = c .before .before .before .before
 
-  -- the index is the table's: what it gave is what the name means
-  found : c .find .result ≡ foundAs (start .args .table .now) (meaningOf (start .args .table .now) (start .args .name .now))
-  found = c .find .ensures ∙ ap (foundAs _) (indexed _ _ (start .pre))
+  abbrev sought-there : Sought
+  sought-there = soughtIn (start .args .table .now) (start .args .name .now)
+
+  -- the keys are the table's: what was found by them is what the name means
+  found : c .find .result ≡ matchAs (start .args .table .now) sought-there
+  found = c .find .ensures ∙ ap (matchAs _) (sought-by-keys _ _ (start .pre))
+
+-- where a record was found
+module _ (c : tie.After-known-told) where
+  abbrev looked : tie.After-find
+  looked = c .before .before .before
+
+  as-found : (kind : Kind) (r : Part) → let a = start looked .args in
+      c .before .v .given .0 .0 .kind ≡ kind → r ≡ partFor (a .place) (a .next) (a .left) (valueAs kind (bytesOf (a .table .now) (c .before .v .given .0 .0)))
+      → r ≡ partFor (a .place) (a .next) (a .left) (inReading (sought-there looked))
+  as-found kind r k h =
+      let a = start looked .args in
+      recorded (a .place) (a .next) (a .left) (a .table .now) _ _ kind (sought-there looked) r (sought-own (a .table .now) (a .name .now))
+      (c .before .v .given .1) (found looked) k h
 
 find-requires : tie.Need-find-requires
 find-requires c κs = search needs
@@ -100,34 +93,32 @@ enum-told c = search needs
 refused-requires : tie.Need-refused-requires
 refused-requires c κs = search needs
 
+enum-known-v : tie.Need-enum-known-v
+enum-known-v c = search needs
+
 enum-told-2 : tie.Need-enum-told-2
 enum-told-2 c = search needs
 
 refused-requires-2 : tie.Need-refused-requires-2
 refused-requires-2 c κs = search needs
 
-enum-known-v : tie.Need-enum-known-v
-enum-known-v c = search needs
+enum-told-3 : tie.Need-enum-told-3
+enum-told-3 c = search needs
 
 refused-requires-3 : tie.Need-refused-requires-3
 refused-requires-3 c κs = search needs
 
-returns : tie.Need-returns
-returns c =
-    let k = c .before .before .before .before .before .before in
-    let a = start k .args in
-    let m = meaningOf (a .table .now) (a .name .now) in
-    other-found (a .table .now) (a .place) (a .next) (a .left) _ _ m _ (c .before .before .before .before .v .given .1) (found k) (c .before .if1 .taken) (c .refused3 .ensures)
+enum-told-4 : tie.Need-enum-told-4
+enum-told-4 c = search needs
 
 refused-requires-4 : tie.Need-refused-requires-4
 refused-requires-4 c κs = search needs
 
-returns-2 : tie.Need-returns-2
-returns-2 c =
-    let k = c .before .before .before .before .before .before .before in
-    let a = start k .args in
-    let m = meaningOf (a .table .now) (a .name .now) in
-    spent-found (a .table .now) (a .place) (a .next) (a .left) _ _ m _ (c .before .before .before .before .before .v .given .1) (found k) (c .before .before .if1 .left) (c .before .if2 .taken) (c .refused4 .ensures)
+returns : tie.Need-returns
+returns c =
+    let k = c .before .before .before .before in
+    let a = start (looked k) .args in
+    as-found k Integer _ (c .before .before .enum-told4 .given .1) (c .refused4 .ensures ∙ none-left (a .place) (a .next) (a .left) _ (c .before .if1 .taken))
 
 value-of-requires : tie.Need-value-of-requires
 value-of-requires c κs = search needs
@@ -135,30 +126,28 @@ value-of-requires c κs = search needs
 pattern-of-requires : tie.Need-pattern-of-requires
 pattern-of-requires c κs = search needs
 
-sub-t13 : tie.Need-sub-t13
-sub-t13 c = search needs
+sub-t15 : tie.Need-sub-t15
+sub-t15 c = search needs
+
+returns-2 : tie.Need-returns-2
+returns-2 c =
+    let k = c .before .before .before in
+    let a = start k .args in
+    missing (a .place) (a .next) (a .left) (a .table .now) _ (sought-there k) _ (c .before .enum-told .given .1) (found k) (c .refused .ensures)
 
 returns-3 : tie.Need-returns-3
-returns-3 c =
-    let k = c .before .before .before in
-    let a = start k .args in
-    let m = meaningOf (a .table .now) (a .name .now) in
-    nothing-found (a .table .now) (a .place) (a .next) (a .left) _ m _ (c .before .enum-told .given .1) (found k) (c .refused .ensures)
+returns-3 c = as-found (c .before .before .before) Text _ (c .before .enum-told2 .given .1) (c .refused2 .ensures)
 
 returns-4 : tie.Need-returns-4
-returns-4 c =
-    let k = c .before .before .before in
-    let a = start k .args in
-    let m = meaningOf (a .table .now) (a .name .now) in
-    unsound-found (a .table .now) (a .place) (a .next) (a .left) _ _ _ m _ (c .before .enum-told2 .given .1) (found k) (c .refused2 .ensures)
+returns-4 c = as-found (c .before .before .before) Macro _ (c .before .enum-told3 .given .1) (c .refused3 .ensures)
 
 returns-5 : tie.Need-returns-5
 returns-5 c =
-    let k = c .before .before .before .before .before .before .before .before in
-    let a = start k .args in
-    let m = meaningOf (a .table .now) (a .name .now) in
-    value-found (a .table .now) (a .place) (a .next) (a .left) _ _ m _ (meaning-own (a .table .now) (a .name .now)) (c .before .before .before .before .before .before .v .given .1) (found k) (c .before .before .before .if1 .left) (c .before .before .if2 .left)
-    (c .pattern-of .ensures ∙ ap pattern (c .before .value-of .ensures))
+    let k = c .before .before .before .before .before in
+    let a = start (looked k) .args in
+    let value = c .pattern-of .ensures ∙ ap pattern (c .before .value-of .ensures) in
+    as-found k Integer _ (c .before .before .before .enum-told4 .given .1)
+    (ap (λ n. Value n (a .left - 1) (a .next)) value ∙ one-spent (a .place) (a .next) (a .left) _ (c .before .before .if1 .left))
 
 pub look-up-spec : {M : Type 1} → statement M
 look-up-spec =
@@ -167,16 +156,18 @@ look-up-spec =
     find-requires
     enum-told
     refused-requires
+    enum-known-v
     enum-told-2
     refused-requires-2
-    enum-known-v
+    enum-told-3
     refused-requires-3
-    returns
+    enum-told-4
     refused-requires-4
-    returns-2
+    returns
     value-of-requires
     pattern-of-requires
-    sub-t13
+    sub-t15
+    returns-2
     returns-3
     returns-4
     returns-5)

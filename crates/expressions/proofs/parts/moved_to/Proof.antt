@@ -1,6 +1,6 @@
 -- `moved_to` meets its contract, case by case.
 use mathlib.Core.Path.{ap, sym}
-use Rattle.expressions.specs.Steps.{movedTo}
+use Rattle.expressions.specs.inner.Steps.{movedTo}
 use borrow.Author.Needs.{needs}
 use Rattle.expressions.proofs.parts.moved_to.Statement.{statement}
 use Rattle.expressions.proofs.parts.moved_to.Tie as tie

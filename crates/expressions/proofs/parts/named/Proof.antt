@@ -5,10 +5,10 @@ use Prim.Native.Nat.{ℕ}
 use Rattle.variables.specs.Names.{Meaning}
 use Rattle.expressions.specs.Trees.{tree, variable}
 use Rattle.expressions.specs.declared.parts.Account.{Account}
-use Rattle.expressions.specs.declared.parts.Account.the-variants.{Open, Shut}
+use Rattle.expressions.specs.declared.parts.Account.the-variants.{Open, Refused as RefusedBefore}
 use Rattle.expressions.specs.declared.parts.Part.{Part}
 use Rattle.expressions.specs.declared.parts.Part.the-variants.{Refused}
-use Rattle.expressions.specs.Steps.{partOf}
+use Rattle.expressions.specs.inner.Steps.{partOf}
 use borrow.Author.Needs.{needs}
 use Rattle.expressions.proofs.parts.named.Statement.{statement}
 use Rattle.expressions.proofs.parts.named.Tie as tie
@@ -18,9 +18,9 @@ module _ (names : List ℕ → Meaning) (word : List ℕ) (place next : ℕ) whe
       → r ≡ partOf names account (tree (variable word place) next)
   open-part left account r e h = h ∙ ap (λ a. partOf names a (tree (variable word place) next)) (sym e)
 
-  shut-part : (n first : ℕ) (account : Account) → account ≡ Shut n first
+  refused-part : (n first : ℕ) (account : Account) → account ≡ RefusedBefore n first
       → Refused n first next ≡ partOf names account (tree (variable word place) next)
-  shut-part n first account e = ap (λ a. partOf names a (tree (variable word place) next)) (sym e)
+  refused-part n first account e = ap (λ a. partOf names a (tree (variable word place) next)) (sym e)
 
 enum-known-account : tie.Need-enum-known-account
 enum-known-account c = search needs
@@ -35,7 +35,7 @@ returns : tie.Need-returns
 returns c = open-part _ _ _ _ _ _ _ (c .before .before .account .given .1) (c .look-up .ensures)
 
 returns-2 : tie.Need-returns-2
-returns-2 c = shut-part _ _ _ _ _ _ _ (c .before .account2 .given .1)
+returns-2 c = refused-part _ _ _ _ _ _ _ (c .before .account2 .given .1)
 
 pub named-spec : {M : Type 1} → statement M
 named-spec =

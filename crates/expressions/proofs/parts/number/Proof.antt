@@ -5,9 +5,9 @@ use Prim.Native.Nat.{ℕ}
 use Rattle.variables.specs.Names.{Meaning}
 use Rattle.expressions.specs.Trees.{tree, constant}
 use Rattle.expressions.specs.declared.parts.Account.{Account}
-use Rattle.expressions.specs.declared.parts.Account.the-variants.{Open, Shut}
+use Rattle.expressions.specs.declared.parts.Account.the-variants.{Open, Refused as RefusedBefore}
 use Rattle.expressions.specs.declared.parts.Part.the-variants.{Value, Refused}
-use Rattle.expressions.specs.Steps.{partOf}
+use Rattle.expressions.specs.inner.Steps.{partOf}
 use borrow.Author.Needs.{needs}
 use Rattle.expressions.proofs.parts.number.Statement.{statement}
 use Rattle.expressions.proofs.parts.number.Tie as tie
@@ -16,9 +16,9 @@ open-part : (value next left : ℕ) (account : Account) → account ≡ Open lef
     → (names : List ℕ → Meaning) → Value value left next ≡ partOf names account (tree (constant value) next)
 open-part value next left account e names = ap (λ a. partOf names a (tree (constant value) next)) (sym e)
 
-shut-part : (value next n place : ℕ) (account : Account) → account ≡ Shut n place
+refused-part : (value next n place : ℕ) (account : Account) → account ≡ RefusedBefore n place
     → (names : List ℕ → Meaning) → Refused n place next ≡ partOf names account (tree (constant value) next)
-shut-part value next n place account e names = ap (λ a. partOf names a (tree (constant value) next)) (sym e)
+refused-part value next n place account e names = ap (λ a. partOf names a (tree (constant value) next)) (sym e)
 
 enum-known-account : tie.Need-enum-known-account
 enum-known-account c = search needs
@@ -30,7 +30,7 @@ returns : tie.Need-returns
 returns c = open-part _ _ _ _ (c .before .account .given .1)
 
 returns-2 : tie.Need-returns-2
-returns-2 c = shut-part _ _ _ _ _ (c .before .account2 .given .1)
+returns-2 c = refused-part _ _ _ _ _ (c .before .account2 .given .1)
 
 pub number-spec : {M : Type 1} → statement M
 number-spec = tie.close (tie.spec enum-known-account enum-known-account-2 returns returns-2)

@@ -7,7 +7,7 @@ use borrow.Author.Needs.{needs}
 use lib.ListN.{length, drop, length-drop}
 use lib.Seq.{take-all}
 use Rattle.paper.specs.Refusals.{longest}
-use Rattle.reader.specs.Reading.{placeOf, reading}
+use Rattle.reader.specs.Reading.{no-limit, readPlace, reading}
 use Rattle.reader.proofs.Bounds.{reading-bounded}
 use Rattle.expressions.specs.Tokens.{numberBy}
 use Rattle.expressions.proofs.Laws.{no-bytes}
@@ -28,13 +28,13 @@ read-unsigned-requires c κs = search needs
 
 answered : (c : tie.After-read-unsigned) →
     let a = c .before .before .before .args in
-    c .read-unsigned .result ≡ reading (drop (a .at) (a .text .now)) false 4294967295
+    c .read-unsigned .result ≡ reading (drop (a .at) (a .text .now)) false no-limit
 answered c =
     let a = c .before .before .before .args in
     let whole = take-all (length (a .text .now) - a .at) (drop (a .at) (a .text .now)) (omega (arith, length-drop (a .at) (a .text .now))) in
-    c .read-unsigned .ensures ∙ ap (λ text. reading text false 4294967295) whole
+    c .read-unsigned .ensures ∙ ap (λ text. reading text false no-limit) whole
 
-placed : (c : tie.After-read-unsigned) → placeOf (c .read-unsigned .result) ≤ longest
+placed : (c : tie.After-read-unsigned) → readPlace (c .read-unsigned .result) ≤ longest
 placed c = rw (answered c) (reading-bounded _ _ _ .place)
 
 enum-known-n : tie.Need-enum-known-n

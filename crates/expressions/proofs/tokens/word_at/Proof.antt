@@ -14,10 +14,10 @@ use Rattle.expressions.proofs.tokens.word_at.Tie as tie
 word :
     (text : List ℕ) (at : ℕ) {token : Token} {next : ℕ} →
     next ≡ at + wordRun (drop at text) → token ≡ wordToken (take (next - at) (drop at text)) →
-    record { token = token; at = at; next = next } ≡ wordAt text at
+    record { token = token; place = at; next = next } ≡ wordAt text at
 word text at {token} {next} n t =
     let size : next - at ≡ wordRun (drop at text) = omega arith in
-    ap₂ (λ token next. record { token = token; at = at; next = next }) (t ∙ ap (λ size. wordToken (take size (drop at text))) size) n
+    ap₂ (λ token next. record { token = token; place = at; next = next }) (t ∙ ap (λ size. wordToken (take size (drop at text))) size) n
 
 skip-word-requires : tie.Need-skip-word-requires
 skip-word-requires c κs = search needs

@@ -4,9 +4,9 @@ use mathlib.Core.List.{List, _++_}
 use Prim.Native.Nat.{ℕ, _+_, _-_, _≤_}
 use native.Mathlib.Numerals.{add-one}
 use native.Mathlib.Omega.{arith}
-use lib.ListN.{length, getD, set, take}
-use lib.Seq.{paste, paste-zero, paste-suc, length-paste, take-paste, take-length}
-use Rattle.filter.specs.Lines.{Longer}
+use lib.ListN.{length, getD, set, take, drop}
+use lib.Seq.{paste, paste-zero, paste-suc, length-paste, take-length}
+use Rattle.filter.proofs.LineLaws.{Put}
 use Rattle.filter.proofs.lines.put.Statement.{statement}
 use Rattle.filter.proofs.lines.put.Tie as tie
 
@@ -56,21 +56,16 @@ add-result c = omega arith
 same-length : tie.Need-same-length Inv-loop μ-loop
 same-length c = as-long (c .before)
 
-whole : (out bytes after : List ℕ) (at i : ℕ) → i ≡ length bytes → at + length bytes ≤ length out → after ≡ paste out at bytes i
-    → Longer out at bytes (at + i) after
-whole out bytes after at i all fits e =
-    record {
-      long = ap length e ∙ length-paste out at bytes i (omega arith) (omega arith);
-      ends = ap (λ i. at + i) all;
-      text = ap (take (at + i)) e ∙ take-paste out at bytes i (omega arith) (omega arith)
-          ∙ ap (λ l. take at out ++ l) (ap (λ i. take i bytes) all ∙ take-length bytes);
-    }
+whole : (out bytes after : List ℕ) (at i : ℕ) → i ≡ length bytes → after ≡ paste out at bytes i
+    → Put out at bytes (at + i) after
+whole out bytes after at i all e =
+    (ap (λ i. at + i) all, e ∙ ap (λ l. take at out ++ l ++ drop (at + i) out) (ap (λ i. take i bytes) all ∙ take-length bytes))
 
 returns : tie.Need-returns Inv-loop μ-loop
 returns c =
     let a = c .before .before .args in
     let l = c .before .loop in
-    whole (a .out .now) (a .bytes .now) (l .out) (a .at) (l .i) (omega arith) (l .inv .1) (l .inv .2)
+    whole (a .out .now) (a .bytes .now) (l .out) (a .at) (l .i) (omega arith) (l .inv .2)
 
 pub put-spec : {M : Type 1} → statement M
 put-spec =

@@ -1,9 +1,4 @@
 -- `refusal` meets its contract: its five parts stand one after the other.
-use mathlib.Core.Path.{sym}
-use native.Mathlib.Omega.{arith}
-use Prim.Native.Nat.{_≤_}
-use lib.ListN.{length}
-use lib.Seq.{length-take-le}
 use borrow.Author.Needs.{needs}
 use Rattle.filter.proofs.LineLaws.{refusal-parts}
 use Rattle.filter.proofs.lines.refusal.Statement.{statement}
@@ -44,12 +39,8 @@ returns c =
     let c₂ = c₃ .before .before .before .before .before in
     let c₁ = c₂ .before .before .before .before in
     let a = c₁ .before .before .before .before .args in
-    let fits : c₅ .put3 .result ≤ length (c₅ .put3 .last .1 .1 .0) =
-    omega (arith, c₅ .put3 .ensures .ends, c₅ .put3 .ensures .long) in (
-      (fits, sym (length-take-le _ _ fits)),
-      refusal-parts (a .number) (a .place) (c₁ .put .ensures) (c₂ .put-decimal .ensures .1) (c₃ .put2 .ensures) (c₄ .put-decimal2 .ensures .1)
-          (c₅ .put3 .ensures),
-    )
+    refusal-parts (a .number) (a .place) (a .out .now) (c₁ .put .ensures) (c₂ .put-decimal .ensures .1) (c₃ .put2 .ensures) (c₄ .put-decimal2 .ensures .1)
+    (c₅ .put3 .ensures)
 
 pub refusal-spec : {M : Type 1} → statement M
 refusal-spec =

@@ -13,12 +13,12 @@ returns : tie.Need-returns
 unfolding coded
 returns c = below _ _ _ _ (c .if1 .taken) refl
 
-bad-requires : tie.Need-bad-requires
-bad-requires c κs = search needs
+faulty-requires : tie.Need-faulty-requires
+faulty-requires c κs = search needs
 
 returns-2 : tie.Need-returns-2
 unfolding coded
-returns-2 c = not-below _ _ _ _ (c .before .if1 .left) (c .bad .ensures)
+returns-2 c = not-below _ _ _ _ (c .before .if1 .left) (c .faulty .ensures)
 
 pub coded-spec : {M : Type 1} → statement M
-coded-spec = tie.close (tie.spec cast-t5 returns bad-requires returns-2)
+coded-spec = tie.close (tie.spec cast-t5 returns faulty-requires returns-2)

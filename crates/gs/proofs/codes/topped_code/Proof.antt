@@ -38,14 +38,14 @@ returns c =
       lt-leb _ _ (c .before .if1 .taken),
     )
 
-bad-requires : tie.Need-bad-requires
-bad-requires c κs = search needs
+faulty-requires : tie.Need-faulty-requires
+faulty-requires c κs = search needs
 
 returns-2 : tie.Need-returns-2
 unfolding toppedCode
 returns-2 c =
     let value = c .before .before in
-    rw (c .bad .ensures, ← value .before .byte .ensures, ← value .code .ensures, le-leb _ _ (c .before .if1 .left), or-true)
+    rw (c .faulty .ensures, ← value .before .byte .ensures, ← value .code .ensures, le-leb _ _ (c .before .if1 .left), or-true)
 
 pub topped-code-spec : {M : Type 1} → statement M
 topped-code-spec =
@@ -58,5 +58,5 @@ topped-code-spec =
     topped-requires
     add-t9
     returns
-    bad-requires
+    faulty-requires
     returns-2)

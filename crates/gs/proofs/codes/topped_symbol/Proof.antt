@@ -14,14 +14,14 @@ byte-requires c κs = search needs
 is-bare-requires : tie.Need-is-bare-requires
 is-bare-requires c κs = search needs
 
-bad-requires : tie.Need-bad-requires
-bad-requires c κs = search needs
+faulty-requires : tie.Need-faulty-requires
+faulty-requires c κs = search needs
 
 returns : tie.Need-returns
 unfolding toppedSymbol
 returns c =
     let bare = c .before .before in
-    rw (c .bad .ensures, ← bare .before .byte .ensures, ← bare .is-bare .ensures, c .before .if1 .taken)
+    rw (c .faulty .ensures, ← bare .before .byte .ensures, ← bare .is-bare .ensures, c .before .if1 .taken)
 
 topped-code-requires : tie.Need-topped-code-requires
 topped-code-requires c κs = search needs
@@ -51,7 +51,7 @@ topped-symbol-spec =
     add-byte
     byte-requires
     is-bare-requires
-    bad-requires
+    faulty-requires
     returns
     topped-code-requires
     returns-2

@@ -1,5 +1,5 @@
 -- `expand` and `follow` meet their contracts: a level of a text calls a reference, and a macro's reference a level deeper.
-use mathlib.Core.Path.{_≡_, refl, ap, sym, subst, _∙_}
+use mathlib.Core.Path.{_≡_, ap, sym, subst, _∙_}
 use mathlib.Core.List.{List}
 use Prim.Native.Nat.{_+_, _-_, _*_, _≤_}
 use native.Mathlib.Omega.{arith}
@@ -7,18 +7,18 @@ use lib.ListN.{length, take, drop, length-take}
 use borrow.Author.Needs.{needs}
 use denote.Ref.{now}
 use Rattle.variables.specs.Names.{namesOf}
-use Rattle.gs.specs.Readings.{expands, whole}
-use Rattle.gs.specs.Steps.{Came, halted, Read, pieceOf, lengthIn, referredIn, partOf}
+use Rattle.gs.specs.Readings.{expands, wholeText}
+use Rattle.gs.specs.inner.Steps.{Came, Read, pieceOf, lengthIn, referredIn, partOf}
 use Rattle.variables.specs.declared.Variable.{Variable}
 use Rattle.gs.proofs.Pieces.{value-small}
 use Rattle.gs.proofs.PlainRuns.{at-run}
-use Rattle.gs.proofs.Places.{Stands, symbol-stands}
+use Rattle.gs.proofs.Places.{Stands, quoteOf, symbol-stands}
 use Rattle.gs.proofs.Follows.{number-gives, too-big-gives, unknown-gives, text-gives, integer-gives, too-deep-gives, spent-gives, value-gives}
 use Rattle.gs.specs.declared.symbols.Mode.{Mode}
 use Rattle.gs.specs.declared.symbols.Symbol.{Symbol}
 use Rattle.gs.specs.declared.expansion.Expanded.{Expanded}
-use Rattle.gs.specs.declared.expansion.Expanded.the-variants.{Halted}
-use Rattle.gs.proofs.Walk.{Walk, start, at-end, at-bad, at-byte, at-reference, at-stop, came-through, came-stopped}
+use Rattle.gs.specs.declared.expansion.Expanded.the-variants.{Refused}
+use Rattle.gs.proofs.Walk.{Walk, start, at-end, at-faulty, at-byte, at-reference, at-refused, came-through, came-to-refusal}
 use Prim.Native.Nat.{ℕ, _<_}
 use borrow.Fn.Kinds.{In}
 use borrow.Fn.PlainCycle.{Measures, is, falls, and}
@@ -28,10 +28,10 @@ use Rattle.gs.proofs.expansion.+expand+follow.Lts-expand as expand-lts
 use Rattle.gs.proofs.expansion.follow.Reads as follow
 use Rattle.gs.proofs.expansion.follow.Kinds as follow-kinds
 use Rattle.gs.proofs.expansion.+expand+follow.Lts-follow as follow-lts
-use Rattle.gs.proofs.expansion.behind.Reads as behind-reads
+use Rattle.gs.proofs.expansion.progress_of.Reads as progress-of-reads
 use Rattle.gs.proofs.expansion.ended.Reads as ended-reads
-use Rattle.gs.proofs.expansion.halted.Reads as halted-reads
-use Rattle.gs.proofs.expansion.stop.Reads as stop-reads
+use Rattle.gs.proofs.expansion.refused_text.Reads as refused-text-reads
+use Rattle.gs.proofs.expansion.refused_reference.Reads as refused-reference-reads
 use Rattle.gs.proofs.flags.Flags.none.Reads as none-reads
 use Rattle.gs.proofs.bytes.is_ending_space.Reads as is-ending-space-reads
 use Rattle.gs.proofs.runs.plain_end.Reads as plain-end-reads
@@ -66,11 +66,11 @@ abbrev follow-below : ℕ → In 3 follow-kinds.ps
 follow-below t = and 3 follow-kinds.ps (falls 3 follow-kinds.ps _<_ μ-follow t) follow.Pre
 
 abbrev expand-Inv-loop : expand-lts.InvT-loop
-expand-Inv-loop text table index flags levels left at out₀ mode here₀ to₀ rest₀ spaces-end out here to rest =
-    Walk (namesOf table) (expands (namesOf table) levels) text (flags .0) left at out₀ mode out here to rest
+expand-Inv-loop text table keys flags levels left to out₀ mode here₀ far₀ rest₀ spaces-end out here far rest =
+    Walk (namesOf table) (expands (namesOf table) levels) text (flags .0) left to out₀ mode out here far rest
 
 abbrev expand-μ-loop : expand-lts.MeasureT-loop
-expand-μ-loop text table index flags levels left at out₀ mode here₀ to₀ rest₀ spaces-end out here to rest = length text + 1 - here
+expand-μ-loop text table keys flags levels left to out₀ mode here₀ far₀ rest₀ spaces-end out here far rest = length text + 1 - here
 
 -- what the functions that `expand` calls ask and tell
 abbrev expand-calls : ℕ → expand-lts.Claims
@@ -89,8 +89,8 @@ expand-calls t = (
   ended-reads.Learnt,
   number-reads.Asked,
   number-reads.Learnt,
-  halted-reads.Asked,
-  halted-reads.Learnt,
+  refused-text-reads.Asked,
+  refused-text-reads.Learnt,
   put-reads.Asked,
   put-reads.Learnt,
   resolve-reads.Asked,
@@ -109,8 +109,8 @@ expand-loop-holds : (t : ℕ) → expand-lts.Need-loop-holds (expand-calls t) (e
 expand-loop-holds t c =
     let a = c .before .before .before .before .before .before .args in
     let names = namesOf (a .table .now) in
-    start names (expands names (a .levels)) (a .text .now) (a .flags .0) (a .left) (a .at) (a .out .now) (c .before .open .result .mode)
-    (c .before .open .result) (c .before .open .ensures) refl
+    start names (expands names (a .levels)) (a .text .now) (a .flags .0) (a .left) (a .to) (a .out .now) (c .before .open .result .mode)
+    (c .before .open .result .at) (c .before .open .ensures .0) (c .before .open .ensures .1)
 
 expand-plain-end-requires : (t : ℕ) → expand-lts.Need-plain-end-requires (expand-calls t) (expand-at t) expand.Post expand-Inv-loop expand-μ-loop
 expand-plain-end-requires t c κs = c .loop .inv .inside
@@ -127,11 +127,11 @@ expand-part-copy-end t c = omega (arith, c .plain-end .ensures .forward, c .plai
 expand-copy-requires : (t : ℕ) → expand-lts.Need-copy-requires (expand-calls t) (expand-at t) expand.Post expand-Inv-loop expand-μ-loop
 expand-copy-requires t c κs = search needs
 
-expand-sub-to : (t : ℕ) → expand-lts.Need-sub-to (expand-calls t) (expand-at t) expand.Post expand-Inv-loop expand-μ-loop
-expand-sub-to t c = omega (arith, c .before .before .before .before .before .plain-end .ensures .forward)
+expand-sub-far : (t : ℕ) → expand-lts.Need-sub-far (expand-calls t) (expand-at t) expand.Post expand-Inv-loop expand-μ-loop
+expand-sub-far t c = omega (arith, c .before .before .before .before .before .plain-end .ensures .forward)
 
-expand-add-to : (t : ℕ) → expand-lts.Need-add-to (expand-calls t) (expand-at t) expand.Post expand-Inv-loop expand-μ-loop
-expand-add-to t c =
+expand-add-far : (t : ℕ) → expand-lts.Need-add-far (expand-calls t) (expand-at t) expand.Post expand-Inv-loop expand-μ-loop
+expand-add-far t c =
     let run = c .before .before .before .before .before .plain-end .ensures in
     let w = c .before .before .before .before .before .before .loop .inv in
     omega (arith, c .before .before .before .before .before .before .before .before .before .before .before .before .before .pre .1, w .place, w .small, run .forward, run .inside)
@@ -153,8 +153,8 @@ module _ (t : ℕ) (c : expand-lts.After-symbol-at (expand-calls t) (expand-at t
   abbrev expand-here : ℕ
   expand-here = expand-passed .plain-end .result
 
-  abbrev expand-to : ℕ
-  expand-to = expand-turn .loop .to + (expand-here - expand-turn .loop .here)
+  abbrev expand-far : ℕ
+  expand-far = expand-turn .loop .far + (expand-here - expand-turn .loop .here)
 
   abbrev expand-out : List ℕ
   expand-out = c .before .before .before .copy .last .1 .1 .0
@@ -167,13 +167,13 @@ module _ (t : ℕ) (c : expand-lts.After-symbol-at (expand-calls t) (expand-at t
 
   expand-walk :
       let a = expand-begun .args in
-      Walk (namesOf (a .table .now)) (expands (namesOf (a .table .now)) (a .levels)) expand-text (a .flags .0) (a .left) (a .at) (a .out .now) expand-mode
-      expand-out expand-here expand-to (expand-turn .loop .rest)
+      Walk (namesOf (a .table .now)) (expands (namesOf (a .table .now)) (a .levels)) expand-text (a .flags .0) (a .left) (a .to) (a .out .now) expand-mode
+      expand-out expand-here expand-far (expand-turn .loop .rest)
   expand-walk =
       let a = expand-begun .args in
       let names = namesOf (a .table .now) in
       let l = expand-turn .loop in
-      at-run names (expands names (a .levels)) expand-text (a .flags .0) (a .left) (a .at) (a .out .now) expand-mode (l .out) expand-out (l .here) (l .to) (l .rest)
+      at-run names (expands names (a .levels)) expand-text (a .flags .0) (a .left) (a .to) (a .out .now) expand-mode (l .out) expand-out (l .here) (l .far) (l .rest)
       expand-here _ (l .inv) (c .before .before .before .before .before .before .before .before .is-ending-space .ensures) (expand-passed .plain-end .ensures) (c .before .before .before .copy .ensures)
 
   -- that an answer is how far the text came
@@ -181,13 +181,13 @@ module _ (t : ℕ) (c : expand-lts.After-symbol-at (expand-calls t) (expand-at t
   expand-read after r =
       let a = expand-begun .args in
       let names = namesOf (a .table .now) in
-      Read (whole names (expands names (a .levels)) expand-text (a .flags .0)) (length expand-text) (a .left) (a .at) (a .out .now) after r
+      Read (wholeText names (expands names (a .levels)) expand-text (a .flags .0)) (length expand-text) (a .left) (a .to) (a .out .now) after r
 
   -- where it stands
-  expand-stands : (s : Symbol) → c .symbol-at .result ≡ s → Stands (length expand-text) expand-here s
+  expand-stands : (s : Symbol) → c .symbol-at .result ≡ s → Stands (length expand-text) expand-here (quoteOf expand-mode) s
   expand-stands s e =
       symbol-stands expand-text (expand-begun .args .flags .0) expand-mode expand-here
-      (λ k. omega (arith, c .before .before .before .before .before .before .before .before .before .before .before .before .before .shared-slice-known .given k)) (expand-passed .plain-end .ensures .inside) (expand-turn .loop .inv .quote)
+      (expand-passed .plain-end .ensures .inside)
       (sym (c .symbol-at .ensures) ∙ e)
 
 expand-enum-known-symbol : (t : ℕ) → expand-lts.Need-enum-known-symbol (expand-calls t) (expand-at t) expand.Post expand-Inv-loop expand-μ-loop
@@ -206,7 +206,7 @@ expand-returns t c =
     let names = namesOf (a .table .now) in
     let rest = expand-turn t s .loop .rest in
     subst (expand-read t s (expand-out t s)) (sym (c .ended .ensures))
-    (at-end names (expands names (a .levels)) (expand-text t s) (a .flags .0) (a .left) (a .at) (a .out .now) (expand-mode t s) (expand-out t s) (expand-here t s) (expand-to t s) rest
+    (at-end names (expands names (a .levels)) (expand-text t s) (a .flags .0) (a .left) (a .to) (a .out .now) (expand-mode t s) (expand-out t s) (expand-here t s) (expand-far t s) rest
     (c .before .before .symbol .given .0 .0) (expand-walk t s) (sym (s .symbol-at .ensures) ∙ c .before .before .symbol .given .1))
 
 expand-enum-known-symbol-2 : (t : ℕ) → expand-lts.Need-enum-known-symbol-2 (expand-calls t) (expand-at t) expand.Post expand-Inv-loop expand-μ-loop
@@ -215,8 +215,8 @@ expand-enum-known-symbol-2 t c = search needs
 expand-number-requires : (t : ℕ) → expand-lts.Need-number-requires (expand-calls t) (expand-at t) expand.Post expand-Inv-loop expand-μ-loop
 expand-number-requires t c κs = search needs
 
-expand-halted-requires : (t : ℕ) → expand-lts.Need-halted-requires (expand-calls t) (expand-at t) expand.Post expand-Inv-loop expand-μ-loop
-expand-halted-requires t c κs = search needs
+expand-refused-text-requires : (t : ℕ) → expand-lts.Need-refused-text-requires (expand-calls t) (expand-at t) expand.Post expand-Inv-loop expand-μ-loop
+expand-refused-text-requires t c κs = search needs
 
 expand-same-length-2 : (t : ℕ) → expand-lts.Need-same-length-2 (expand-calls t) (expand-at t) expand.Post expand-Inv-loop expand-μ-loop
 expand-same-length-2 t c = search needs
@@ -227,10 +227,10 @@ expand-returns-2 t c =
     let a = expand-begun t s .args in
     let names = namesOf (a .table .now) in
     let rest = expand-turn t s .loop .rest in
-    let bad = c .before .before .before .symbol2 .given in
-    subst (expand-read t s (expand-out t s)) (sym (c .halted .ensures ∙ ap (λ n. Halted n (bad .0 .1 .0 .0)) (c .before .number .ensures)))
-    (at-bad names (expands names (a .levels)) (expand-text t s) (a .flags .0) (a .left) (a .at) (a .out .now) (expand-mode t s) (expand-out t s) (expand-here t s) (expand-to t s) rest
-    (bad .0 .0) (bad .0 .1 .0) (expand-walk t s) (sym (s .symbol-at .ensures) ∙ bad .1))
+    let faulty = c .before .before .before .symbol2 .given in
+    subst (expand-read t s (expand-out t s)) (sym (c .refused-text .ensures ∙ ap (λ n. Refused n (faulty .0 .1 .0 .0)) (c .before .number .ensures)))
+    (at-faulty names (expands names (a .levels)) (expand-text t s) (a .flags .0) (a .left) (a .to) (a .out .now) (expand-mode t s) (expand-out t s) (expand-here t s) (expand-far t s) rest
+    (faulty .0 .0) (faulty .0 .1 .0) (expand-walk t s) (sym (s .symbol-at .ensures) ∙ faulty .1))
 
 expand-enum-known-symbol-3 : (t : ℕ) → expand-lts.Need-enum-known-symbol-3 (expand-calls t) (expand-at t) expand.Post expand-Inv-loop expand-μ-loop
 expand-enum-known-symbol-3 t c = search needs
@@ -238,8 +238,8 @@ expand-enum-known-symbol-3 t c = search needs
 expand-put-requires : (t : ℕ) → expand-lts.Need-put-requires (expand-calls t) (expand-at t) expand.Post expand-Inv-loop expand-μ-loop
 expand-put-requires t c κs = search needs
 
-expand-add-to-2 : (t : ℕ) → expand-lts.Need-add-to-2 (expand-calls t) (expand-at t) expand.Post expand-Inv-loop expand-μ-loop
-expand-add-to-2 t c =
+expand-add-far-2 : (t : ℕ) → expand-lts.Need-add-far-2 (expand-calls t) (expand-at t) expand.Post expand-Inv-loop expand-μ-loop
+expand-add-far-2 t c =
     let s = c .before .before .before .before .before .before .before in
     let w = expand-walk t s in
     omega (arith, expand-begun t s .pre .1, w .place, w .small, w .inside)
@@ -258,7 +258,7 @@ expand-loop-again t c =
     let rest = expand-turn t s .loop .rest in
     let byte = c .before .before .before .before .before .symbol3 .given in
     let stands = expand-stands t s _ (byte .1) in
-    at-byte names (expands names (a .levels)) (expand-text t s) (a .flags .0) (a .left) (a .at) (a .out .now) (expand-mode t s) (expand-out t s) (expand-here t s) (expand-to t s) rest
+    at-byte names (expands names (a .levels)) (expand-text t s) (a .flags .0) (a .left) (a .to) (a .out .now) (expand-mode t s) (expand-out t s) (expand-here t s) (expand-far t s) rest
     (byte .0 .0) (byte .0 .1 .0) _ (expand-walk t s) (sym (s .symbol-at .ensures) ∙ byte .1) (stands .forward) (stands .within) (c .before .before .put .ensures)
 
 expand-enum-known-symbol-4 : (t : ℕ) → expand-lts.Need-enum-known-symbol-4 (expand-calls t) (expand-at t) expand.Post expand-Inv-loop expand-μ-loop
@@ -313,20 +313,20 @@ expand-loop-again-2 t c =
     let r = c .before .before .before .before .before .before .before .before .before .before .symbol4 .given in
     let name = take (r .0 .1 .0 - r .0 .0) (drop (r .0 .0) (expand-text t s)) in
     let follow = c .before .before .before .before .before .follow in
-    let came = subst (λ k. Came (pieceOf (a .table .now) (expands names (a .levels)) k name (expand-here t s)) rest (expand-to t s) (expand-out t s) (follow .last .1 .1 .1 .1 .1 .1 .1 .0) (follow .result))
+    let came = subst (λ k. Came (pieceOf (a .table .now) (expands names (a .levels)) k name (expand-here t s)) rest (expand-far t s) (expand-out t s) (follow .last .1 .1 .1 .1 .1 .1 .1 .0) (follow .result))
     (c .before .before .before .before .before .before .before .resolve .ensures) (follow .ensures name) in
     let piece = pieceOf (a .table .now) (expands names (a .levels)) (referredIn (a .table .now) name) name (expand-here t s) in
     let stands = expand-stands t s _ (r .1) in
-    at-reference (a .table .now) (expands names (a .levels)) (expand-text t s) (a .flags .0) (a .left) (a .at) (a .out .now) (expand-mode t s) (expand-out t s) (expand-here t s) (expand-to t s) rest
+    at-reference (a .table .now) (expands names (a .levels)) (expand-text t s) (a .flags .0) (a .left) (a .to) (a .out .now) (expand-mode t s) (expand-out t s) (expand-here t s) (expand-far t s) rest
     (r .0 .0) (r .0 .1 .0) (r .0 .1 .1 .0) (expand-walk t s) (sym (s .symbol-at .ensures) ∙ r .1) _ _ _
     (omega (arith, stands .begins, stands .long, stands .behind)) (stands .within)
-    (came-through piece rest (expand-to t s) (expand-out t s) _ _ _ _ came (c .before .came .given .1))
+    (came-through piece rest (expand-far t s) (expand-out t s) _ _ _ _ came (c .before .came .given .1))
 
 expand-enum-known-came-2 : (t : ℕ) → expand-lts.Need-enum-known-came-2 (expand-calls t) (expand-at t) expand.Post expand-Inv-loop expand-μ-loop
 expand-enum-known-came-2 t c = search needs
 
-expand-halted-requires-2 : (t : ℕ) → expand-lts.Need-halted-requires-2 (expand-calls t) (expand-at t) expand.Post expand-Inv-loop expand-μ-loop
-expand-halted-requires-2 t c κs = search needs
+expand-refused-text-requires-2 : (t : ℕ) → expand-lts.Need-refused-text-requires-2 (expand-calls t) (expand-at t) expand.Post expand-Inv-loop expand-μ-loop
+expand-refused-text-requires-2 t c κs = search needs
 
 expand-same-length-3 : (t : ℕ) → expand-lts.Need-same-length-3 (expand-calls t) (expand-at t) expand.Post expand-Inv-loop expand-μ-loop
 expand-same-length-3 t c =
@@ -344,12 +344,12 @@ expand-returns-3 t c =
     let r = k .before .before .before .before .before .before .before .before .before .before .symbol4 .given in
     let name = take (r .0 .1 .0 - r .0 .0) (drop (r .0 .0) (expand-text t s)) in
     let follow = k .before .before .before .before .before .follow in
-    let came = subst (λ k. Came (pieceOf (a .table .now) (expands names (a .levels)) k name (expand-here t s)) rest (expand-to t s) (expand-out t s) (follow .last .1 .1 .1 .1 .1 .1 .1 .0) (follow .result))
+    let came = subst (λ k. Came (pieceOf (a .table .now) (expands names (a .levels)) k name (expand-here t s)) rest (expand-far t s) (expand-out t s) (follow .last .1 .1 .1 .1 .1 .1 .1 .0) (follow .result))
     (k .before .before .before .before .before .before .before .resolve .ensures) (follow .ensures name) in
     let piece = pieceOf (a .table .now) (expands names (a .levels)) (referredIn (a .table .now) name) name (expand-here t s) in
-    let both = came-stopped piece rest (expand-to t s) (expand-out t s) _ _ _ _ came (k .before .came2 .given .1) in
-    subst (expand-read t s (follow .last .1 .1 .1 .1 .1 .1 .1 .0)) (sym (c .halted2 .ensures))
-    (at-stop (a .table .now) (expands names (a .levels)) (expand-text t s) (a .flags .0) (a .left) (a .at) (a .out .now) (expand-mode t s) (expand-out t s) (expand-here t s) (expand-to t s) rest
+    let both = came-to-refusal piece rest (expand-far t s) (expand-out t s) _ _ _ _ came (k .before .came2 .given .1) in
+    subst (expand-read t s (follow .last .1 .1 .1 .1 .1 .1 .1 .0)) (sym (c .refused-text2 .ensures))
+    (at-refused (a .table .now) (expands names (a .levels)) (expand-text t s) (a .flags .0) (a .left) (a .to) (a .out .now) (expand-mode t s) (expand-out t s) (expand-here t s) (expand-far t s) rest
     (r .0 .0) (r .0 .1 .0) (r .0 .1 .1 .0) (expand-walk t s) (sym (s .symbol-at .ensures) ∙ r .1) _ _ _ (both .0) (both .1))
 
 -- what the functions that `follow` calls ask and tell
@@ -357,8 +357,8 @@ abbrev follow-calls : ℕ → follow-lts.Claims
 follow-calls t = (
   put-reads.Asked,
   put-reads.Learnt,
-  stop-reads.Asked,
-  stop-reads.Learnt,
+  refused-reference-reads.Asked,
+  refused-reference-reads.Learnt,
   value-of-reads.Asked,
   value-of-reads.Learnt,
   give-reads.Asked,
@@ -369,8 +369,8 @@ follow-calls t = (
   none-reads.Learnt,
   expand-below t,
   expand.Post,
-  behind-reads.Asked,
-  behind-reads.Learnt,
+  progress-of-reads.Asked,
+  progress-of-reads.Learnt,
 )
 
 -- a value is no longer than its variable says
@@ -389,14 +389,14 @@ follow-add-t18 t c = search needs
 follow-enum-told : (t : ℕ) → follow-lts.Need-enum-told (follow-calls t) (follow-at t) follow.Post
 follow-enum-told t c = search needs
 
-follow-stop-requires : (t : ℕ) → follow-lts.Need-stop-requires (follow-calls t) (follow-at t) follow.Post
-follow-stop-requires t c κs = search needs
+follow-refused-reference-requires : (t : ℕ) → follow-lts.Need-refused-reference-requires (follow-calls t) (follow-at t) follow.Post
+follow-refused-reference-requires t c κs = search needs
 
 follow-enum-told-2 : (t : ℕ) → follow-lts.Need-enum-told-2 (follow-calls t) (follow-at t) follow.Post
 follow-enum-told-2 t c = search needs
 
-follow-stop-requires-2 : (t : ℕ) → follow-lts.Need-stop-requires-2 (follow-calls t) (follow-at t) follow.Post
-follow-stop-requires-2 t c κs = search needs
+follow-refused-reference-requires-2 : (t : ℕ) → follow-lts.Need-refused-reference-requires-2 (follow-calls t) (follow-at t) follow.Post
+follow-refused-reference-requires-2 t c κs = search needs
 
 follow-enum-known-referred-2 : (t : ℕ) → follow-lts.Need-enum-known-referred-2 (follow-calls t) (follow-at t) follow.Post
 follow-enum-known-referred-2 t c = search needs
@@ -423,25 +423,25 @@ follow-give-integer-requires t c κs = search needs
 follow-enum-known-referred-4 : (t : ℕ) → follow-lts.Need-enum-known-referred-4 (follow-calls t) (follow-at t) follow.Post
 follow-enum-known-referred-4 t c = search needs
 
-follow-stop-requires-3 : (t : ℕ) → follow-lts.Need-stop-requires-3 (follow-calls t) (follow-at t) follow.Post
-follow-stop-requires-3 t c κs = search needs
+follow-refused-reference-requires-3 : (t : ℕ) → follow-lts.Need-refused-reference-requires-3 (follow-calls t) (follow-at t) follow.Post
+follow-refused-reference-requires-3 t c κs = search needs
 
 follow-returns : (t : ℕ) → follow-lts.Need-returns (follow-calls t) (follow-at t) follow.Post
 follow-returns t c name =
     let a = c .before .before .before .before .before .before .before .before .args in
     let names = namesOf (a .table .now) in
     let k = c .before .before .before .referred4 .given in
-    too-deep-gives (a .table .now) (a .referred) name (a .left) (a .place) (a .at) (a .out .now) names (a .levels) (k .0 .0) (k .1) _ (c .before .if1 .taken) (c .stop3 .ensures)
+    too-deep-gives (a .table .now) (a .referred) name (a .left) (a .place) (a .to) (a .out .now) names (a .levels) (k .0 .0) (k .1) _ (c .before .if1 .taken) (c .refused-reference3 .ensures)
 
-follow-stop-requires-4 : (t : ℕ) → follow-lts.Need-stop-requires-4 (follow-calls t) (follow-at t) follow.Post
-follow-stop-requires-4 t c κs = search needs
+follow-refused-reference-requires-4 : (t : ℕ) → follow-lts.Need-refused-reference-requires-4 (follow-calls t) (follow-at t) follow.Post
+follow-refused-reference-requires-4 t c κs = search needs
 
 follow-returns-2 : (t : ℕ) → follow-lts.Need-returns-2 (follow-calls t) (follow-at t) follow.Post
 follow-returns-2 t c name =
     let a = c .before .before .before .before .before .before .before .before .before .args in
     let names = namesOf (a .table .now) in
     let k = c .before .before .before .before .referred4 .given in
-    spent-gives (a .table .now) (a .referred) name (a .left) (a .place) (a .at) (a .out .now) names (a .levels) (k .0 .0) (k .1) _ (c .before .before .if1 .left) (c .before .if2 .taken) (c .stop4 .ensures)
+    spent-gives (a .table .now) (a .referred) name (a .left) (a .place) (a .to) (a .out .now) names (a .levels) (k .0 .0) (k .1) _ (c .before .before .if1 .left) (c .before .if2 .taken) (c .refused-reference4 .ensures)
 
 follow-value-of-requires-3 : (t : ℕ) → follow-lts.Need-value-of-requires-3 (follow-calls t) (follow-at t) follow.Post
 follow-value-of-requires-3 t c κs = search needs
@@ -461,8 +461,8 @@ follow-expand-requires t c κs =
     let short = part-short (c .before .before .before .before .before .before .before .before .before .before .before .args .table .now) _ (k .0 .0) (c .before .before .value-of3 .ensures) (subst (λ r. lengthIn r ≤ 255) (k .1) (c .before .before .before .before .before .before .before .before .before .before .before .pre .1 .1)) in
     (omega (arith, c .before .before .before .before .before .before .before .before .before .before .before .pre .0, c .before .before .before .before .if1 .left), (omega (arith, short), omega (arith, short, c .before .before .before .before .before .before .before .before .before .before .before .pre .1 .0, c .before .before .before .if2 .left), c .before .before .before .before .before .before .before .before .before .before .before .pre .1 .2))
 
-follow-behind-requires : (t : ℕ) → follow-lts.Need-behind-requires (follow-calls t) (follow-at t) follow.Post
-follow-behind-requires t c κs = search needs
+follow-progress-of-requires : (t : ℕ) → follow-lts.Need-progress-of-requires (follow-calls t) (follow-at t) follow.Post
+follow-progress-of-requires t c κs = search needs
 
 follow-same-length : (t : ℕ) → follow-lts.Need-same-length (follow-calls t) (follow-at t) follow.Post
 follow-same-length t c = search needs
@@ -472,19 +472,19 @@ follow-returns-3 t c name =
     let a = c .before .before .before .before .before .before .before .before .before .before .args in
     let names = namesOf (a .table .now) in
     let k = c .before .before .before .before .before .referred .given in
-    number-gives (a .table .now) (a .referred) name (a .left) (a .place) (a .at) (a .out .now) (expands names (a .levels)) (k .0 .0) _ (k .1) (c .before .before .put .ensures)
+    number-gives (a .table .now) (a .referred) name (a .left) (a .place) (a .to) (a .out .now) (expands names (a .levels)) (k .0 .0) _ (k .1) (c .before .before .put .ensures)
 
 follow-returns-4 : (t : ℕ) → follow-lts.Need-returns-4 (follow-calls t) (follow-at t) follow.Post
 follow-returns-4 t c name =
     let a = c .before .before .before .before .before .before .args in
     let names = namesOf (a .table .now) in
-    too-big-gives (a .table .now) (a .referred) name (a .left) (a .place) (a .at) (a .out .now) (expands names (a .levels)) _ (c .before .enum-told .given .1) (c .stop .ensures)
+    too-big-gives (a .table .now) (a .referred) name (a .left) (a .place) (a .to) (a .out .now) (expands names (a .levels)) _ (c .before .enum-told .given .1) (c .refused-reference .ensures)
 
 follow-returns-5 : (t : ℕ) → follow-lts.Need-returns-5 (follow-calls t) (follow-at t) follow.Post
 follow-returns-5 t c name =
     let a = c .before .before .before .before .before .before .args in
     let names = namesOf (a .table .now) in
-    unknown-gives (a .table .now) (a .referred) name (a .left) (a .place) (a .at) (a .out .now) (expands names (a .levels)) _ (c .before .enum-told2 .given .1) (c .stop2 .ensures)
+    unknown-gives (a .table .now) (a .referred) name (a .left) (a .place) (a .to) (a .out .now) (expands names (a .levels)) _ (c .before .enum-told2 .given .1) (c .refused-reference2 .ensures)
 
 follow-same-length-2 : (t : ℕ) → follow-lts.Need-same-length-2 (follow-calls t) (follow-at t) follow.Post
 follow-same-length-2 t c = search needs
@@ -494,7 +494,7 @@ follow-returns-6 t c name =
     let a = c .before .before .before .before .before .before .before .before .before .before .before .args in
     let names = namesOf (a .table .now) in
     let k = c .before .before .before .before .before .before .referred2 .given in
-    text-gives (a .table .now) (a .referred) name (a .left) (a .place) (a .at) (a .out .now) (expands names (a .levels)) (k .0 .0) _ _ _ (k .1) (c .before .before .before .before .value-of .ensures) (c .before .before .give .ensures name)
+    text-gives (a .table .now) (a .referred) name (a .left) (a .place) (a .to) (a .out .now) (expands names (a .levels)) (k .0 .0) _ _ _ (k .1) (c .before .before .before .before .value-of .ensures) (c .before .before .give .ensures name)
 
 follow-same-length-3 : (t : ℕ) → follow-lts.Need-same-length-3 (follow-calls t) (follow-at t) follow.Post
 follow-same-length-3 t c = search needs
@@ -504,7 +504,7 @@ follow-returns-7 t c name =
     let a = c .before .before .before .before .before .before .before .before .before .before .before .args in
     let names = namesOf (a .table .now) in
     let k = c .before .before .before .before .before .before .referred3 .given in
-    integer-gives (a .table .now) (a .referred) name (a .left) (a .place) (a .at) (a .out .now) (expands names (a .levels)) (k .0 .0) _ _ _ (k .1) (c .before .before .before .before .value-of2 .ensures) (c .before .before .give-integer .ensures name)
+    integer-gives (a .table .now) (a .referred) name (a .left) (a .place) (a .to) (a .out .now) (expands names (a .levels)) (k .0 .0) _ _ _ (k .1) (c .before .before .before .before .value-of2 .ensures) (c .before .before .give-integer .ensures name)
 
 follow-same-length-4 : (t : ℕ) → follow-lts.Need-same-length-4 (follow-calls t) (follow-at t) follow.Post
 follow-same-length-4 t c = search needs
@@ -515,10 +515,10 @@ follow-returns-8 t c name =
     let names = namesOf (a .table .now) in
     let k = c .before .before .before .before .before .before .before .before .before .before .referred4 .given in
     let short = part-short (a .table .now) _ (k .0 .0) (c .before .before .before .before .before .before .value-of3 .ensures) (subst (λ r. lengthIn r ≤ 255) (k .1) (c .before .before .before .before .before .before .before .before .before .before .before .before .before .before .before .pre .1 .1)) in
-    value-gives (a .table .now) (a .referred) name (a .left) (a .place) (a .at) (a .out .now) names (a .levels) (k .0 .0) (k .1) _ _ _ _ (c .before .before .before .before .before .before .before .before .if1 .left) (c .before .before .before .before .before .before .before .if2 .left) (c .before .before .before .before .before .before .value-of3 .ensures) short
-    (subst (λ f. Read (whole names (expands names (a .levels - 1)) (now (c .before .before .before .before .before .before .value-of3 .result)) f) (length (now (c .before .before .before .before .before .before .value-of3 .result))) (a .left - 1) (a .at) (a .out .now) (c .before .before .before .expand .last .1 .1 .1 .1 .1 .1 .1 .0) (c .before .before .before .expand .result))
+    value-gives (a .table .now) (a .referred) name (a .left) (a .place) (a .to) (a .out .now) names (a .levels) (k .0 .0) (k .1) _ _ _ _ (c .before .before .before .before .before .before .before .before .if1 .left) (c .before .before .before .before .before .before .before .if2 .left) (c .before .before .before .before .before .before .value-of3 .ensures) short
+    (subst (λ f. Read (wholeText names (expands names (a .levels - 1)) (now (c .before .before .before .before .before .before .value-of3 .result)) f) (length (now (c .before .before .before .before .before .before .value-of3 .result))) (a .left - 1) (a .to) (a .out .now) (c .before .before .before .expand .last .1 .1 .1 .1 .1 .1 .1 .0) (c .before .before .before .expand .result))
     (c .before .before .before .before .before .none .ensures) (c .before .before .before .expand .ensures))
-    (c .behind .ensures)
+    (c .progress-of .ensures)
 
 pub +expand+follow-spec : {M : Type 1} → statement M
 +expand+follow-spec = close μ-expand μ-follow (λ t. expand-lts.spec (expand-calls t)
@@ -534,8 +534,8 @@ pub +expand+follow-spec : {M : Type 1} → statement M
     (expand-part-copy-start t)
     (expand-part-copy-end t)
     (expand-copy-requires t)
-    (expand-sub-to t)
-    (expand-add-to t)
+    (expand-sub-far t)
+    (expand-add-far t)
     (expand-symbol-at-requires t)
     (expand-enum-known-symbol t)
     (expand-ended-requires t)
@@ -543,12 +543,12 @@ pub +expand+follow-spec : {M : Type 1} → statement M
     (expand-returns t)
     (expand-enum-known-symbol-2 t)
     (expand-number-requires t)
-    (expand-halted-requires t)
+    (expand-refused-text-requires t)
     (expand-same-length-2 t)
     (expand-returns-2 t)
     (expand-enum-known-symbol-3 t)
     (expand-put-requires t)
-    (expand-add-to-2 t)
+    (expand-add-far-2 t)
     (expand-loop-less t)
     (expand-loop-again t)
     (expand-enum-known-symbol-4 t)
@@ -561,7 +561,7 @@ pub +expand+follow-spec : {M : Type 1} → statement M
     (expand-loop-less-2 t)
     (expand-loop-again-2 t)
     (expand-enum-known-came-2 t)
-    (expand-halted-requires-2 t)
+    (expand-refused-text-requires-2 t)
     (expand-same-length-3 t)
     (expand-returns-3 t))
     λ t. follow-lts.spec (follow-calls t) (follow-at t)
@@ -570,9 +570,9 @@ pub +expand+follow-spec : {M : Type 1} → statement M
     (follow-put-requires t)
     (follow-add-t18 t)
     (follow-enum-told t)
-    (follow-stop-requires t)
+    (follow-refused-reference-requires t)
     (follow-enum-told-2 t)
-    (follow-stop-requires-2 t)
+    (follow-refused-reference-requires-2 t)
     (follow-enum-known-referred-2 t)
     (follow-value-of-requires t)
     (follow-give-requires t)
@@ -580,16 +580,16 @@ pub +expand+follow-spec : {M : Type 1} → statement M
     (follow-value-of-requires-2 t)
     (follow-give-integer-requires t)
     (follow-enum-known-referred-4 t)
-    (follow-stop-requires-3 t)
+    (follow-refused-reference-requires-3 t)
     (follow-returns t)
-    (follow-stop-requires-4 t)
+    (follow-refused-reference-requires-4 t)
     (follow-returns-2 t)
     (follow-value-of-requires-3 t)
     (follow-none-requires t)
     (follow-sub-expand t)
     (follow-sub-expand-2 t)
     (follow-expand-requires t)
-    (follow-behind-requires t)
+    (follow-progress-of-requires t)
     (follow-same-length t)
     (follow-returns-3 t)
     (follow-returns-4 t)

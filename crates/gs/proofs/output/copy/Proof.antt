@@ -10,11 +10,11 @@ use Rattle.gs.proofs.output.copy.Statement.{statement}
 use Rattle.gs.proofs.output.copy.Tie as tie
 
 abbrev Inv-loop : tie.InvT-loop
-Inv-loop bytes at out₀ room i₀ out i =
-    (i ≤ length bytes) × (at + length bytes ≤ length out₀) × (out ≡ paste out₀ at bytes i)
+Inv-loop bytes to out₀ room i₀ out i =
+    (i ≤ length bytes) × (to + length bytes ≤ length out₀) × (out ≡ paste out₀ to bytes i)
 
 abbrev μ-loop : tie.MeasureT-loop
-μ-loop bytes at out₀ room i₀ out i = length bytes - i
+μ-loop bytes to out₀ room i₀ out i = length bytes - i
 
 returns : tie.Need-returns Inv-loop μ-loop
 returns c = record { long = refl; fits = λ h. absurd (omega arith) }
@@ -25,13 +25,13 @@ returns-2 c = record { long = refl; fits = λ h. absurd (omega arith) }
 loop-holds : tie.Need-loop-holds Inv-loop μ-loop
 loop-holds c =
     let a = c .before .before .args in
-    (omega arith, omega arith, paste-zero (a .out .now) (a .at) (a .«from» .now))
+    (omega arith, omega arith, paste-zero (a .out .now) (a .to) (a .«from» .now))
 
 -- the buffer is as long as it was
 as-long : (c : tie.At-loop Inv-loop μ-loop) → length (c .loop .out) ≡ length (c .before .before .before .args .out .now)
 as-long c =
     let a = c .before .before .before .args in
-    ap length (c .loop .inv .2) ∙ length-paste (a .out .now) (a .at) (a .«from» .now) (c .loop .i) (omega arith) (omega arith)
+    ap length (c .loop .inv .2) ∙ length-paste (a .out .now) (a .to) (a .«from» .now) (c .loop .i) (omega arith) (omega arith)
 
 shared-slice-read-out : tie.Need-shared-slice-read-out Inv-loop μ-loop
 shared-slice-read-out c = omega arith
@@ -54,18 +54,18 @@ loop-again c =
     let l = c .before .before .loop in (
       omega arith,
       l .inv .1,
-      ap (λ o. set o (a .at + l .i) (getD (a .«from» .now) (l .i) 0)) (l .inv .2)
-          ∙ rw add-one (paste-suc (a .out .now) (a .at) (a .«from» .now) (l .i) 0 (omega arith) (omega arith)),
+      ap (λ o. set o (a .to + l .i) (getD (a .«from» .now) (l .i) 0)) (l .inv .2)
+          ∙ rw add-one (paste-suc (a .out .now) (a .to) (a .«from» .now) (l .i) 0 (omega arith) (omega arith)),
     )
 
 same-length : tie.Need-same-length Inv-loop μ-loop
 same-length c = as-long (c .before)
 
-whole : (out bytes after : List ℕ) (at i : ℕ) → length bytes ≤ i → i ≤ length bytes → at + length bytes ≤ length out → after ≡ paste out at bytes i
-    → after ≡ sets out at bytes
-whole out bytes after at i high low fits e =
+whole : (out bytes after : List ℕ) (to i : ℕ) → length bytes ≤ i → i ≤ length bytes → to + length bytes ≤ length out → after ≡ paste out to bytes i
+    → after ≡ sets out to bytes
+whole out bytes after to i high low fits e =
     let all : i ≡ length bytes = omega arith in
-    e ∙ ap (paste out at bytes) all ∙ ap (λ l. take at out ++ l ++ drop (at + length bytes) out) (take-length bytes) ∙ sym (sets-eq bytes out at fits)
+    e ∙ ap (paste out to bytes) all ∙ ap (λ l. take to out ++ l ++ drop (to + length bytes) out) (take-length bytes) ∙ sym (sets-eq bytes out to fits)
 
 returns-3 : tie.Need-returns-3 Inv-loop μ-loop
 returns-3 c =
@@ -73,7 +73,7 @@ returns-3 c =
     let l = c .before .loop in
     record {
       long = as-long (c .before);
-      fits = λ h. whole (a .out .now) (a .«from» .now) (l .out) (a .at) (l .i) (omega arith) (omega arith) h (l .inv .2);
+      fits = λ h. whole (a .out .now) (a .«from» .now) (l .out) (a .to) (l .i) (omega arith) (omega arith) h (l .inv .2);
     }
 
 pub copy-spec : {M : Type 1} → statement M

@@ -1,21 +1,27 @@
--- `by_kind` meets its contract: its tests are the definition's.
-use mathlib.Core.Path.{refl}
-use Rattle.paper.proofs.Choice.{same, other}
-use Rattle.gs.specs.Steps.{kinded}
+-- `by_kind` meets its contract, kind by kind.
+use mathlib.Core.Path.{ap, sym}
+use borrow.Author.Needs.{needs}
+use Rattle.gs.specs.inner.Steps.{kinded}
 use Rattle.gs.proofs.references.by_kind.Statement.{statement}
 use Rattle.gs.proofs.references.by_kind.Tie as tie
 
+enum-told : tie.Need-enum-told
+enum-told c = search needs
+
+enum-told-2 : tie.Need-enum-told-2
+enum-told-2 c = search needs
+
+enum-told-3 : tie.Need-enum-told-3
+enum-told-3 c = search needs
+
 returns : tie.Need-returns
-unfolding kinded
-returns c = same _ _ _ _ (c .if1 .taken) refl
+returns c = ap (λ k. kinded k (c .before .before .args .v)) (sym (c .enum-told .given .1))
 
 returns-2 : tie.Need-returns-2
-unfolding kinded
-returns-2 c = other _ _ _ _ (c .before .if1 .left) (same _ _ _ _ (c .if2 .taken) refl)
+returns-2 c = ap (λ k. kinded k (c .before .before .args .v)) (sym (c .enum-told2 .given .1))
 
 returns-3 : tie.Need-returns-3
-unfolding kinded
-returns-3 c = other _ _ _ _ (c .before .if1 .left) (other _ _ _ _ (c .if2 .left) refl)
+returns-3 c = ap (λ k. kinded k (c .before .before .args .v)) (sym (c .enum-told3 .given .1))
 
 pub by-kind-spec : {M : Type 1} → statement M
-by-kind-spec = tie.close (tie.spec returns returns-2 returns-3)
+by-kind-spec = tie.close (tie.spec enum-told enum-told-2 enum-told-3 returns returns-2 returns-3)

@@ -1,4 +1,4 @@
--- `give` meets its contract: with no look-up left it stops; else the bytes are laid for one.
+-- `give` meets its contract: with no look-up left it refuses; else the bytes are laid for one.
 use mathlib.Core.Path.{_≡_, refl, ap, subst}
 use mathlib.Core.List.{List}
 use Prim.Native.Nat.{ℕ, suc, _+_, _-_, _≤_}
@@ -7,31 +7,31 @@ use lib.ListN.{length}
 use borrow.Author.Needs.{needs}
 use Rattle.paper.specs.Traces.{Trace, asks, spends, run}
 use Rattle.gs.specs.Readings.{givesAll}
-use Rattle.gs.specs.Steps.{Laid, Passes, Came, went, halted}
-use Rattle.gs.specs.declared.expansion.Progress.the-variants.{Going, Stopped}
+use Rattle.gs.specs.inner.Steps.{Laid, Passes, Came, came-going, came-refused}
+use Rattle.gs.specs.declared.expansion.Progress.the-variants.{Going, Refused}
 use Rattle.gs.proofs.Pieces.{passes-all}
 use Rattle.gs.proofs.references.give.Statement.{statement}
 use Rattle.gs.proofs.references.give.Tie as tie
 
-module _ (given out name : List ℕ) (left place at : ℕ) where
+module _ (given out name : List ℕ) (left place to : ℕ) where
   piece : Trace → Trace
   piece rest = asks name (spends place (givesAll given rest))
 
-  none-left : left ≡ 0 → Came (λ rest. asks name (spends place (givesAll given rest))) left at out out (Stopped 12 place)
-  none-left h = halted 12 place refl (λ rest. ap (run (asks name (spends place (givesAll given rest)))) h)
+  none-left : left ≡ 0 → Came (λ rest. asks name (spends place (givesAll given rest))) left to out out (Refused 12 place)
+  none-left h = came-refused 12 place refl (λ rest. ap (run (asks name (spends place (givesAll given rest)))) h)
 
-  some-left : (after : List ℕ) → (left ≡ 0 → ⊥) → length given ≤ 255 → Laid out at given after
-      → Came (λ rest. asks name (spends place (givesAll given rest))) left at out after (Going (at + length given) (left - 1))
+  some-left : (after : List ℕ) → (left ≡ 0 → ⊥) → length given ≤ 255 → Laid out to given after
+      → Came (λ rest. asks name (spends place (givesAll given rest))) left to out after (Going (to + length given) (left - 1))
   some-left after h small laid =
       let back : suc (left - 1) ≡ left = omega arith in
-      went (left - 1) given
+      came-going (left - 1) given
       (subst (λ l. Passes (λ rest. asks name (spends place (givesAll given rest))) l (left - 1) given) back (passes-all given name place (left - 1) small))
       laid
 
 returns : tie.Need-returns
 returns c name =
     let a = c .before .before .before .args in
-    none-left (a .given .now) (a .out .now) name (a .left) (a .place) (a .at) (c .if1 .taken)
+    none-left (a .given .now) (a .out .now) name (a .left) (a .place) (a .to) (c .if1 .taken)
 
 copy-requires : tie.Need-copy-requires
 copy-requires c κs = search needs
@@ -48,7 +48,7 @@ same-length c = search needs
 returns-2 : tie.Need-returns-2
 returns-2 c name =
     let a = c .before .before .before .before .before .before .before .args in
-    some-left (a .given .now) (a .out .now) name (a .left) (a .place) (a .at) _ (c .before .before .before .before .if1 .left) (c .before .before .before .before .before .before .before .pre .0) (c .before .before .copy .ensures)
+    some-left (a .given .now) (a .out .now) name (a .left) (a .place) (a .to) _ (c .before .before .before .before .if1 .left) (c .before .before .before .before .before .before .before .pre .0) (c .before .before .copy .ensures)
 
 pub give-spec : {M : Type 1} → statement M
 give-spec = tie.close (tie.spec returns copy-requires add-t11 sub-t12 same-length returns-2)

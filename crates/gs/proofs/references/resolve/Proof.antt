@@ -6,12 +6,13 @@ use Prim.Native.Nat.{ℕ, _%_}
 use lib.Dec.{eqb}
 use borrow.Author.Needs.{needs}
 use Rattle.paper.specs.Refusals.{too-big}
-use Rattle.reader.specs.Reading.{reading, numberOf}
+use Rattle.reader.specs.Reading.{reading, no-limit, readNumber}
 use Rattle.reader.specs.declared.Number.{Number as Valued}
 use Rattle.reader.specs.declared.Reading.{Reading}
 use Rattle.reader.specs.declared.Reading.the-variants.{Value, Refused}
-use Rattle.variables.specs.Tables.{meaningOf}
-use Rattle.gs.specs.Steps.{variableAs, referredAs, referredIn}
+use Rattle.variables.specs.Tables.{soughtIn}
+use Rattle.variables.specs.inner.Keys.{matchAs}
+use Rattle.gs.specs.inner.Steps.{matchedAs, referredAs, referredIn}
 use Rattle.gs.specs.declared.expansion.Referred.{Referred}
 use Rattle.gs.specs.declared.expansion.Referred.the-variants.{Number, TooBig}
 use Rattle.gs.proofs.references.resolve.Statement.{statement}
@@ -32,25 +33,25 @@ refusal-of-requires c κs = search needs
 as-name-requires : tie.Need-as-name-requires
 as-name-requires c κs = search needs
 
-named : (name table : List ℕ) (answer : Reading) (x : ℕ) (y : _) (number : ℕ) (r : Referred)
-    → answer ≡ reading name true 4294967295 → answer ≡ Refused x y → number ≡ numberOf answer
-    → r ≡ cond (eqb number too-big) TooBig (variableAs table (meaningOf table name)) → r ≡ referredIn table name
+by-name : (name table : List ℕ) (answer : Reading) (x : ℕ) (y : _) (number : ℕ) (r : Referred)
+    → answer ≡ reading name true no-limit → answer ≡ Refused x y → number ≡ readNumber answer
+    → r ≡ cond (eqb number too-big) TooBig (matchedAs (matchAs table (soughtIn table name))) → r ≡ referredIn table name
 unfolding referredIn
-named name table answer x y number r a e n h =
-    let named = variableAs table (meaningOf table name) in
-    h ∙ ap (λ k. cond (eqb k too-big) TooBig named) (n ∙ ap numberOf e) ∙ ap (λ r. referredAs r named) (sym e ∙ a)
+by-name name table answer x y number r a e n h =
+    let named = matchedAs (matchAs table (soughtIn table name)) in
+    h ∙ ap (λ k. cond (eqb k too-big) TooBig named) (n ∙ ap readNumber e) ∙ ap (λ r. referredAs r named) (sym e ∙ a)
 
 returns : tie.Need-returns
 returns c =
-    named _ _ _ _ _ _ _ (c .before .before .before .before .read-unsigned .ensures) (c .before .before .enum-told .given .1) (c .before .refusal-of .ensures) (c .as-name .ensures)
+    by-name _ _ _ _ _ _ _ (c .before .before .before .before .read-unsigned .ensures) (c .before .before .enum-told .given .1) (c .before .refusal-of .ensures) (c .as-name .ensures)
 
 cast-t8 : tie.Need-cast-t8
 cast-t8 c = search needs
 
-valued : (name table : List ℕ) (answer : Reading) (n : Valued) → answer ≡ reading name true 4294967295 → answer ≡ Value n
+valued : (name table : List ℕ) (answer : Reading) (n : Valued) → answer ≡ reading name true no-limit → answer ≡ Value n
     → Number (n .value % 256) ≡ referredIn table name
 unfolding referredIn
-valued name table answer n a v = ap (λ r. referredAs r (variableAs table (meaningOf table name))) (sym v ∙ a)
+valued name table answer n a v = ap (λ r. referredAs r (matchedAs (matchAs table (soughtIn table name)))) (sym v ∙ a)
 
 returns-2 : tie.Need-returns-2
 returns-2 c = valued _ _ _ _ (c .before .before .before .before .read-unsigned .ensures) (c .before .before .answer .given .1)

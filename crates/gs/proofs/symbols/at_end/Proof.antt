@@ -9,14 +9,14 @@ enum-told c = search needs
 enum-known-mode : tie.Need-enum-known-mode
 enum-known-mode c = search needs
 
-bad-requires : tie.Need-bad-requires
-bad-requires c κs = search needs
+faulty-requires : tie.Need-faulty-requires
+faulty-requires c κs = search needs
 
 returns : tie.Need-returns
 returns c = rw (c .enum-told .given .1)
 
 returns-2 : tie.Need-returns-2
-returns-2 c = rw (c .bad .ensures, c .before .before .mode .given .1)
+returns-2 c = rw (c .faulty .ensures, c .before .before .mode .given .1)
 
 pub at-end-spec : {M : Type 1} → statement M
-at-end-spec = tie.close (tie.spec enum-told enum-known-mode bad-requires returns returns-2)
+at-end-spec = tie.close (tie.spec enum-told enum-known-mode faulty-requires returns returns-2)

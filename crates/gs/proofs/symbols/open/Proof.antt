@@ -12,18 +12,21 @@ use Rattle.paper.specs.Bytes.{spaces}
 use Rattle.paper.proofs.Choice.{hit, skip}
 use Rattle.paper.proofs.Spaces.{spaces-within}
 use Rattle.gs.specs.Flags.{quotePlain}
-use Rattle.gs.specs.Symbols.{opened}
+use Rattle.gs.specs.Symbols.{firstAt, modeOf}
 use Rattle.gs.specs.declared.symbols.Mode.the-variants.{Plain, Quoted}
-use Rattle.gs.specs.declared.symbols.Opening.{Opening}
+use Rattle.gs.specs.declared.symbols.Mode.{Mode}
 use Rattle.gs.proofs.symbols.open.Statement.{statement}
 use Rattle.gs.proofs.symbols.open.Tie as tie
 
--- `opened` where the spaces end at `start`
-abbrev «from» : List ℕ → ℕ → ℕ → Opening
-«from» text flags start =
-    cond (eqb (getD text start 0) 34 && not (quotePlain flags))
-    (record { at = start + 1; mode = Quoted (record { 0 = start }) })
-    (record { at = start; mode = Plain })
+-- the two definitions where the spaces end at `start`
+abbrev opens : List ℕ → ℕ → ℕ → Bool
+opens text flags start = eqb (getD text start 0) 34 && not (quotePlain flags)
+
+abbrev first-from : List ℕ → ℕ → ℕ → ℕ
+first-from text flags start = cond (opens text flags start) (start + 1) start
+
+abbrev mode-from : List ℕ → ℕ → ℕ → Mode
+mode-from text flags start = cond (opens text flags start) (Quoted (record { 0 = start })) Plain
 
 module _ (c : tie.After-is-mark) where
   abbrev text : List ℕ
@@ -54,12 +57,22 @@ add-t6 : tie.Need-add-t6
 add-t6 c = omega (arith, begins (c .before), spaces-within (text (c .before)))
 
 returns : tie.Need-returns
-unfolding opened
-returns c = hit _ _ _ (marked (c .before) (c .if1 .taken)) refl ∙ ap (from (text (c .before)) (flags (c .before))) (begins (c .before))
+unfolding firstAt modeOf
+returns c =
+    let m = c .before in
+    let b = marked m (c .if1 .taken) in (
+      hit (opens (text m) (flags m) (start m)) _ _ b refl ∙ ap (first-from (text m) (flags m)) (begins m),
+      hit (opens (text m) (flags m) (start m)) _ _ b refl ∙ ap (mode-from (text m) (flags m)) (begins m),
+    )
 
 returns-2 : tie.Need-returns-2
-unfolding opened
-returns-2 c = skip _ _ _ (marked (c .before) (c .if1 .left)) refl ∙ ap (from (text (c .before)) (flags (c .before))) (begins (c .before))
+unfolding firstAt modeOf
+returns-2 c =
+    let m = c .before in
+    let b = marked m (c .if1 .left) in (
+      skip (opens (text m) (flags m) (start m)) _ _ b refl ∙ ap (first-from (text m) (flags m)) (begins m),
+      skip (opens (text m) (flags m) (start m)) _ _ b refl ∙ ap (mode-from (text m) (flags m)) (begins m),
+    )
 
 pub open-spec : {M : Type 1} → statement M
 open-spec =

@@ -26,12 +26,12 @@ add-start c = search needs
 skip-name-requires : tie.Need-skip-name-requires
 skip-name-requires c κs = search needs
 
-bad-requires : tie.Need-bad-requires
-bad-requires c κs = search needs
+faulty-requires : tie.Need-faulty-requires
+faulty-requires c κs = search needs
 
 returns : tie.Need-returns
 unfolding referred
-returns c = rw (c .bad .ensures, le-ltb 0 (run (c .before .before)) (omega arith))
+returns c = rw (c .faulty .ensures, le-ltb 0 (run (c .before .before)) (omega arith))
 
 byte-requires : tie.Need-byte-requires
 byte-requires c κs = search needs
@@ -54,15 +54,15 @@ returns-2 c =
       eq-eqb _ _ (c .if2 .taken),
     )
 
-bad-requires-2 : tie.Need-bad-requires-2
-bad-requires-2 c κs = search needs
+faulty-requires-2 : tie.Need-faulty-requires-2
+faulty-requires-2 c κs = search needs
 
 returns-3 : tie.Need-returns-3
 unfolding referred
 returns-3 c =
     let name = c .before .before .before .before in
     rw (
-      c .bad2 .ensures,
+      c .faulty2 .ensures,
       lt-ltb 0 (run name) (omega arith),
       ← name .skip-name .ensures,
       ← c .before .before .byte .ensures,
@@ -75,10 +75,10 @@ referred-spec =
     (tie.spec
     add-start
     skip-name-requires
-    bad-requires
+    faulty-requires
     returns
     byte-requires
     add-t8
     returns-2
-    bad-requires-2
+    faulty-requires-2
     returns-3)

@@ -7,7 +7,7 @@ use Prim.Native.Nat.{ℕ}
 use borrow.Author.Needs.{needs}
 use borrow.Author.Tests.{eq-eqb, ne-eqb}
 use lib.Dec.{eqb}
-use Rattle.gs.specs.SymbolSteps.{other}
+use Rattle.gs.specs.inner.SymbolSteps.{other}
 use Rattle.gs.specs.Symbols.{active, barred, referred, symbolAt}
 use Rattle.gs.specs.Symbols.{active}
 use Rattle.gs.specs.declared.symbols.Mode.{Mode}

@@ -1,4 +1,4 @@
--- What inner functions give. No public contract cites this page.
+-- What the functions that find one symbol give, and the runs of bytes that stand for themselves.
 use mathlib.Core.Path.{_≡_}
 use mathlib.Core.Bool.{Bool, cond, not, _&&_, _||_}
 use mathlib.Core.List.{List}
@@ -8,7 +8,7 @@ use lib.ListN.{length, getD}
 use Rattle.paper.specs.Bytes.{ends}
 use Rattle.paper.specs.declared.faults.Fault.the-variants.{BadString}
 use Rattle.gs.specs.Flags.{has}
-use Rattle.gs.specs.Symbols.{bad, endingSpace, plainSymbol, quotedOther}
+use Rattle.gs.specs.Symbols.{faulty, endingSpace, plainSymbol, quotedOther}
 use Rattle.gs.specs.declared.symbols.Mode.{Mode}
 use Rattle.gs.specs.declared.symbols.Mode.the-variants.{Plain, Quoted}
 use Rattle.gs.specs.declared.symbols.Symbol.{Symbol}
@@ -32,12 +32,12 @@ bare flags mode c = ends c || (endingSpace flags mode c || (eqb c 60 || eqb c 34
 
 -- the end of a quoted string at a place, or the fault of one that goes on there
 abbrev pub endedAt : Bool → ℕ → Symbol
-endedAt ends at = cond ends (End (record { 0 = at })) (bad BadString at)
+endedAt ends at = cond ends (End (record { 0 = at })) (faulty BadString at)
 
 -- the symbol of the text's end
 abbrev pub atEnd : Mode → ℕ → Symbol
 atEnd Plain at = End (record { 0 = at })
-atEnd (Quoted quote) at = bad BadString (quote .0)
+atEnd (Quoted quote) at = faulty BadString (quote .0)
 
 -- a byte that is no end and starts neither a code nor a reference
 abbrev pub other : List ℕ → ℕ → Mode → ℕ → Symbol

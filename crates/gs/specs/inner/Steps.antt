@@ -1,0 +1,101 @@
+-- How far a reference and a text come, and what a reference stands for.
+use mathlib.Core.Path.{_≡_}
+use mathlib.Core.Bool.{true, cond}
+use mathlib.Core.List.{List, _++_}
+use Prim.Native.Nat.{ℕ, _+_, _*_, _%_, _≤_}
+use lib.Dec.{eqb}
+use lib.ListN.{length, take, drop}
+use lib.Seq.{sets}
+use Rattle.paper.specs.Refusals.{too-big}
+use Rattle.paper.specs.Traces.{Trace, faults, gives, asks, spends, bytes, finished, refused, run}
+use Rattle.paper.specs.declared.faults.Fault.the-variants as Faults
+use Rattle.numbers.specs.Calls.{decimalOf}
+use Rattle.reader.specs.Reading.{reading, no-limit}
+use Rattle.reader.specs.declared.Reading.{Reading}
+use Rattle.reader.specs.declared.Reading.the-variants.{Value, Refused}
+use Rattle.variables.specs.Tables.{soughtIn}
+use Rattle.variables.specs.inner.Keys.{matchAs}
+use Rattle.variables.specs.Names.{pattern}
+use Rattle.variables.specs.declared.Match.{Match}
+use Rattle.variables.specs.declared.Match.the-variants.{Record, Missing}
+use Rattle.variables.specs.declared.Variable.{Variable}
+use Rattle.variables.specs.declared.kinds.Kind.{Kind}
+use Rattle.variables.specs.declared.kinds.Kind.the-variants as Kinds
+use Rattle.gs.specs.Readings.{Expand, givesAll}
+use Rattle.gs.specs.declared.expansion.Referred.{Referred}
+use Rattle.gs.specs.declared.expansion.Referred.the-variants.{Number, TooBig, Unknown, Text, Integer, Macro}
+use Rattle.gs.specs.declared.expansion.Progress.{Progress}
+use Rattle.gs.specs.declared.expansion.Progress.the-variants as Progresses
+use Rattle.gs.specs.declared.expansion.Expanded.{Expanded}
+use Rattle.gs.specs.declared.expansion.Expanded.the-variants as Expansions
+
+-- bytes laid into a buffer at a place, where they fit; what else it then holds is nobody's concern
+pub record Laid (out : List ℕ) (to : ℕ) (given after : List ℕ) : Type 0 where
+  pub long : length after ≡ length out
+  pub fits : to + length given ≤ length out → after ≡ sets out to given
+
+-- a piece of a reading, in front of any rest, that a run passes with look-ups left, having given bytes
+pub record Passes (piece : Trace → Trace) (left left′ : ℕ) (given : List ℕ) : Type 0 where
+  pub runs : (rest : Trace) → run (piece rest) left ≡ run rest left′
+  pub gives : (rest : Trace) → bytes (piece rest) ≡ given ++ bytes rest
+  -- a look-up gives at most 255 bytes, and a number one without it
+  pub small : length given + 255 * left′ ≤ 255 * left + 1
+
+-- how far a reference came
+pub data Came (piece : Trace → Trace) (left to : ℕ) (out after : List ℕ) : Progress → Type 0 where
+  came-going : (left′ : ℕ) (given : List ℕ) → Passes piece left left′ given → Laid out to given after
+      → Came piece left to out after (Progresses.Going (to + length given) left′)
+  came-refused : (number place : ℕ) → length after ≡ length out → ((rest : Trace) → run (piece rest) left ≡ refused number place)
+      → Came piece left to out after (Progresses.Refused number place)
+
+-- how far a whole text of a length came
+pub data Read (trace : Trace) (size left to : ℕ) (out after : List ℕ) : Expanded → Type 0 where
+  read-ended : (end left′ : ℕ) → run trace left ≡ finished end left′ → length (bytes trace) + 255 * left′ ≤ 255 * left + size
+      → Laid out to (bytes trace) after → Read trace size left to out after (Expansions.Ended end (to + length (bytes trace)) left′)
+  read-refused : (number place : ℕ) → length after ≡ length out → run trace left ≡ refused number place
+      → Read trace size left to out after (Expansions.Refused number place)
+
+-- the part of a table where a variable's value lies
+abbrev pub partOf : List ℕ → Variable → List ℕ
+partOf table v = take (v .length) (drop (v .start) table)
+
+-- what a look-up answers, as a reference
+abbrev pub kinded : Kind → Variable → Referred
+kinded Kinds.Text v = Text v
+kinded Kinds.Integer v = Integer v
+kinded Kinds.Macro v = Macro v
+
+abbrev pub matchedAs : Match → Referred
+matchedAs (Record v) = kinded (v .kind) v
+matchedAs Missing = Unknown
+
+abbrev pub referredAs : Reading → Referred → Referred
+referredAs (Value n) named = Number (n .value % 256)
+referredAs (Refused number at) named = cond (eqb number too-big) TooBig named
+
+-- what a content stands for in a table
+unfoldable pub referredIn : List ℕ → List ℕ → Referred
+referredIn table name = referredAs (reading name true no-limit) (matchedAs (matchAs table (soughtIn table name)))
+
+-- the piece of a reading that it makes
+unfoldable pub pieceOf : List ℕ → Expand → Referred → List ℕ → ℕ → Trace → Trace
+pieceOf table expand (Number byte) name place rest = gives byte rest
+pieceOf table expand TooBig name place rest = faults Faults.TooBig place
+pieceOf table expand Unknown name place rest = asks name (faults Faults.UnknownName place)
+pieceOf table expand (Text v) name place rest = asks name (spends place (givesAll (partOf table v) rest))
+pieceOf table expand (Integer v) name place rest = asks name (spends place (givesAll (decimalOf (pattern (partOf table v))) rest))
+pieceOf table expand (Macro v) name place rest = asks name (expand name place (partOf table v) rest)
+
+-- how long the value of a reference is
+abbrev pub lengthIn : Referred → ℕ
+lengthIn (Number byte) = 0
+lengthIn TooBig = 0
+lengthIn Unknown = 0
+lengthIn (Text v) = v .length
+lengthIn (Integer v) = v .length
+lengthIn (Macro v) = v .length
+
+-- how far a macro's reference came, by how far its value did: a refusal inside it has the place of its "<"
+abbrev pub progressOf : Expanded → ℕ → Progress
+progressOf (Expansions.Ended end to left) place = Progresses.Going to left
+progressOf (Expansions.Refused number inner) place = Progresses.Refused number place

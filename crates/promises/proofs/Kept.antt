@@ -1,0 +1,54 @@
+-- Every promise is kept: the one record of them, with a proof for each.
+use Rattle.promises.specs.Promises.{Promises}
+use Rattle.promises.proofs.Contracts as Contracts
+use Rattle.promises.proofs.WorkedExamples.{worked-examples}
+use Rattle.promises.proofs.ConversionsKept as Conversions
+use Rattle.promises.proofs.ReadingsKept as Readings
+use Rattle.promises.proofs.LookupsKept as Lookups
+use Rattle.promises.proofs.TranslationsKept as Translations
+use Rattle.promises.proofs.EvaluationsKept as Evaluations
+
+pub promises : Promises
+promises =
+    record {
+      worked-examples = worked-examples;
+      convert-tied = Contracts.convert;
+      convert-one-answer = Conversions.one-answer;
+      convert-refusals = Conversions.refusals;
+      convert-exact = Conversions.exact;
+      convert-offset-and-free = Conversions.offset-and-free;
+      convert-bytes = Conversions.bytes;
+      convert-reads-back = Conversions.reads-back;
+      convert-larger-room = Conversions.larger-room;
+      convert-second-ask = Conversions.second-ask;
+      read-tied = Contracts.read-unsigned;
+      read-one-answer = Readings.one-answer;
+      read-refusals = Readings.refusals;
+      check-tied = Contracts.check-table;
+      check-one-answer = Lookups.one-check;
+      check-refusals = Lookups.check-refusals;
+      check-records = Lookups.records;
+      look-up-tied = Contracts.look-up;
+      look-up-one-answer = Lookups.one-found;
+      look-up-refusals = Lookups.look-up-refusals;
+      look-up-inside = Lookups.inside;
+      translate-tied = Contracts.translate;
+      translate-one-answer = Translations.one-answer;
+      translate-refusals = Translations.refusals;
+      translate-kept = Translations.kept;
+      translate-refused = Translations.refused-free;
+      translate-bytes = Translations.bytes-left;
+      translate-by-reading = Translations.by-reading;
+      translate-larger = Translations.larger;
+      translate-no-room = Translations.no-room-comes;
+      translate-need = Translations.need;
+      translate-spent = Translations.spent-comes;
+      translate-second-ask = Translations.asked-again;
+      evaluate-tied = Contracts.evaluate;
+      evaluate-one-answer = Evaluations.one-answer;
+      evaluate-refusals = Evaluations.refusals;
+      evaluate-valued = Evaluations.value-is;
+      evaluate-by-reading = Evaluations.by-reading;
+      evaluate-larger = Evaluations.larger;
+      evaluate-spent = Evaluations.spent-comes;
+    }
