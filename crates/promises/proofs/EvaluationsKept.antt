@@ -11,7 +11,7 @@ use Rattle.paper.proofs.Choice.{clash}
 use Rattle.paper.proofs.DemandThree.{run-more, run-spent}
 use Rattle.variables.specs.Judgements.{Judged, good, long-text, bad-table, judgement}
 use Rattle.variables.proofs.Judging.{bad-number}
-use Rattle.expressions.specs.Answers.{readingOf, valueIn, evaluatedBy, evaluated, evaluatedNumber}
+use Rattle.expressions.specs.Answers.{readingOf, valueIn, evaluatedBy, evaluated, evaluatedNumber, evaluatedPattern}
 use Rattle.expressions.specs.declared.Evaluated.{Evaluated}
 use Rattle.expressions.proofs.Orders.{by-judgement, when-good, when-long-text, when-bad-table, evaluated-listed, accepted}
 use Rattle.promises.specs.Evaluations.{OneAnswer, Refusals, Valued, Placed, JudgedAs, ByReading, Larger, Spent}
@@ -45,7 +45,7 @@ by-reading text table allowance r c =
 
 pub value-is : Valued
 value-is text table allowance r c e =
-    subst (λ a. evaluatedNumber a ≡ 0 → _) (sym (c .answer)) (λ z. accepted text table allowance z .pattern) e
+    ap evaluatedPattern (c .answer) ∙ accepted text table allowance (sym (ap evaluatedNumber (c .answer)) ∙ e) .pattern
 
 pub larger : Larger
 larger text table allowance allowance′ r r′ up c c′ n = c′ .answer ∙ go (judgement text table) refl ∙ sym (c .answer)

@@ -104,7 +104,7 @@ module _ (text table : List ℕ) (flags allowance room : ℕ) where
           ↔ ((judgement text table ≡ good) × (lookUps reading ≤ allowed allowance) × Succeeds reading × (room < length (bytes reading)))
       go good e =
           let exactly = no-room-exactly reading (allowed allowance) room in
-          (λ h. (e, exactly .0 h), λ h. exactly .1 (h .1))
+          (λ h. let s = exactly .0 h in (e, s .0, s .1, s .2), λ h. exactly .1 (h .1, h .2, h .3))
       go long-text e = (λ h. absurd (omega arith), λ h. absurd (not-good text table long-text e (λ q. clash (cc)) (h .0)))
       go (bad-table number place) e = (
         λ h. absurd (omega (arith, bad-number text table number place e)),

@@ -21,7 +21,7 @@ use Rattle.reader.specs.Reading.{digit, judged, inBase, numbered, reading, read
 use Rattle.variables.specs.Records.{headed, sized, fitting, nameAt, valueAt, nameByte, small, sameName, entryAt, entries, sought}
 use Rattle.variables.specs.Tables.{sound, scanned, checked}
 use Rattle.variables.specs.Names.{meant}
-use Rattle.gs.specs.Symbols.{symbolAt, active, barred, code, coded, punctuation, toppedCode, toppedSymbol, referred, closed, quotedOther}
+use Rattle.gs.specs.Symbols.{symbolAt, active, barred, code, coded, punctuation, toppedCode, toppedSymbol, referred, closed, quotedOther, firstAt, modeOf}
 use Rattle.gs.specs.Readings.{nameGives, contentGives, symbolGives, symbolsFrom, wholeText, expands}
 use Rattle.gs.specs.Translations.{readingOf, leftBy, translated, outAfter, translatedAnswer}
 use Rattle.expressions.specs.Tokens.{wordByte, wordToken, faultOf, single, fromLess, fromGreater, symbolAt as signAt, startingAt}
@@ -89,28 +89,28 @@ unfolding reading numbered inBase judged digit
 p9 r c = (ap readNumber (c .answer), ap readPlace (c .answer))
 
 p10 : Holds (translates "|!|@" [] 0 1 (128 ∷ []) 4 0)
-unfolding translated outAfter checked scanned sound headed sized fitting nameAt valueAt nameByte small sameName entryAt entries sought meant nameGives contentGives symbolGives symbolsFrom wholeText expands symbolAt active barred code coded punctuation toppedCode toppedSymbol referred closed quotedOther reading numbered inBase judged digit string digits enough
+unfolding translated outAfter scanned sound headed sized fitting nameAt valueAt nameByte small sameName entryAt entries sought meant nameGives contentGives symbolGives symbolsFrom wholeText expands symbolAt active barred code coded punctuation toppedCode toppedSymbol referred closed quotedOther firstAt modeOf reading numbered inBase judged digit string digits enough
 p10 out after r long c = (
   ap translatedAnswer (c .answer ∙ ap (translated (bytes "|!|@") [] 0 0) long),
   c .buffer ∙ ap (λ n. leftBy (translated (bytes "|!|@") [] 0 0 n) (Traces.bytes (readingOf (bytes "|!|@") [] 0)) out) long,
 )
 
 p11 : Holds (translates "\"a\"\"b\"" [] 0 3 (bytes "a\"b") 6 0)
-unfolding translated outAfter checked scanned sound headed sized fitting nameAt valueAt nameByte small sameName entryAt entries sought meant nameGives contentGives symbolGives symbolsFrom wholeText expands symbolAt active barred code coded punctuation toppedCode toppedSymbol referred closed quotedOther reading numbered inBase judged digit string digits enough
+unfolding translated outAfter scanned sound headed sized fitting nameAt valueAt nameByte small sameName entryAt entries sought meant nameGives contentGives symbolGives symbolsFrom wholeText expands symbolAt active barred code coded punctuation toppedCode toppedSymbol referred closed quotedOther firstAt modeOf reading numbered inBase judged digit string digits enough
 p11 out after r long c = (
   ap translatedAnswer (c .answer ∙ ap (translated (bytes "\"a\"\"b\"") [] 0 0) long),
   c .buffer ∙ ap (λ n. leftBy (translated (bytes "\"a\"\"b\"") [] 0 0 n) (Traces.bytes (readingOf (bytes "\"a\"\"b\"") [] 0)) out) long,
 )
 
 p12 : Holds (translates "<321>" [] 0 1 (bytes "A") 5 0)
-unfolding translated outAfter checked scanned sound headed sized fitting nameAt valueAt nameByte small sameName entryAt entries sought meant nameGives contentGives symbolGives symbolsFrom wholeText expands symbolAt active barred code coded punctuation toppedCode toppedSymbol referred closed quotedOther reading numbered inBase judged digit string digits enough
+unfolding translated outAfter scanned sound headed sized fitting nameAt valueAt nameByte small sameName entryAt entries sought meant nameGives contentGives symbolGives symbolsFrom wholeText expands symbolAt active barred code coded punctuation toppedCode toppedSymbol referred closed quotedOther firstAt modeOf reading numbered inBase judged digit string digits enough
 p12 out after r long c = (
   ap translatedAnswer (c .answer ∙ ap (translated (bytes "<321>") [] 0 0) long),
   c .buffer ∙ ap (λ n. leftBy (translated (bytes "<321>") [] 0 0 n) (Traces.bytes (readingOf (bytes "<321>") [] 0)) out) long,
 )
 
 p13 : Holds (translates "<A>b" (86 ∷ 82 ∷ 0 ∷ 1 ∷ 1 ∷ 97 ∷ 120 ∷ []) 1 2 (bytes "xb") 4 0)
-unfolding translated outAfter checked scanned sound headed sized fitting nameAt valueAt nameByte small sameName entryAt entries sought meant nameGives contentGives symbolGives symbolsFrom wholeText expands symbolAt active barred code coded punctuation toppedCode toppedSymbol referred closed quotedOther reading numbered inBase judged digit string digits enough
+unfolding translated outAfter scanned sound headed sized fitting nameAt valueAt nameByte small sameName entryAt entries sought meant nameGives contentGives symbolGives symbolsFrom wholeText expands symbolAt active barred code coded punctuation toppedCode toppedSymbol referred closed quotedOther firstAt modeOf reading numbered inBase judged digit string digits enough
 p13 out after r long c = (
   ap translatedAnswer (c .answer ∙ ap (translated (bytes "<A>b") (86 ∷ 82 ∷ 0 ∷ 1 ∷ 1 ∷ 97 ∷ 120 ∷ []) 0 1) long),
   c .buffer ∙ ap (λ n. leftBy (translated (bytes "<A>b") (86 ∷ 82 ∷ 0 ∷ 1 ∷ 1 ∷ 97 ∷ 120 ∷ []) 0 1 n) (Traces.bytes (readingOf (bytes "<A>b") (86 ∷ 82 ∷ 0 ∷ 1 ∷ 1 ∷ 97 ∷ 120 ∷ []) 0)) out) long,
@@ -125,21 +125,21 @@ unfolding evaluated checked scanned startingAt wordToken wordByte signAt single 
 p15 r c = (ap evaluatedNumber (c .answer), ap evaluatedValue (c .answer), ap evaluatedPlace (c .answer))
 
 empty-text : Holds (translates "" [] 0 0 [] 0 0)
-unfolding translated outAfter checked scanned sound headed sized fitting nameAt valueAt nameByte small sameName entryAt entries sought meant nameGives contentGives symbolGives symbolsFrom wholeText expands symbolAt active barred code coded punctuation toppedCode toppedSymbol referred closed quotedOther reading numbered inBase judged digit string digits enough
+unfolding translated outAfter scanned sound headed sized fitting nameAt valueAt nameByte small sameName entryAt entries sought meant nameGives contentGives symbolGives symbolsFrom wholeText expands symbolAt active barred code coded punctuation toppedCode toppedSymbol referred closed quotedOther firstAt modeOf reading numbered inBase judged digit string digits enough
 empty-text out after r long c = (
   ap translatedAnswer (c .answer ∙ ap (translated [] [] 0 0) long),
   c .buffer ∙ ap (λ n. leftBy (translated [] [] 0 0 n) (Traces.bytes (readingOf [] [] 0)) out) long,
 )
 
 names-itself-thrice : Holds (stops "<a>" selfNaming 3 1 allowance-spent 0)
-unfolding translated outAfter checked scanned sound headed sized fitting nameAt valueAt nameByte small sameName entryAt entries sought meant nameGives contentGives symbolGives symbolsFrom wholeText expands symbolAt active barred code coded punctuation toppedCode toppedSymbol referred closed quotedOther reading numbered inBase judged digit string digits enough
+unfolding translated outAfter scanned sound headed sized fitting nameAt valueAt nameByte small sameName entryAt entries sought meant nameGives contentGives symbolGives symbolsFrom wholeText expands symbolAt active barred code coded punctuation toppedCode toppedSymbol referred closed quotedOther firstAt modeOf reading numbered inBase judged digit string digits enough
 names-itself-thrice out after r long c = (
   ap translatedAnswer (c .answer ∙ ap (translated (bytes "<a>") selfNaming 0 3) long),
   c .buffer ∙ ap (λ n. leftBy (translated (bytes "<a>") selfNaming 0 3 n) (Traces.bytes (readingOf (bytes "<a>") selfNaming 0)) out) long,
 )
 
 names-itself : Holds (stops "<a>" selfNaming 1024 1 too-deep 0)
-unfolding translated outAfter checked scanned sound headed sized fitting nameAt valueAt nameByte small sameName entryAt entries sought meant nameGives contentGives symbolGives symbolsFrom wholeText expands symbolAt active barred code coded punctuation toppedCode toppedSymbol referred closed quotedOther reading numbered inBase judged digit string digits enough
+unfolding translated outAfter scanned sound headed sized fitting nameAt valueAt nameByte small sameName entryAt entries sought meant nameGives contentGives symbolGives symbolsFrom wholeText expands symbolAt active barred code coded punctuation toppedCode toppedSymbol referred closed quotedOther firstAt modeOf reading numbered inBase judged digit string digits enough
 names-itself out after r long c = (
   ap translatedAnswer (c .answer ∙ ap (translated (bytes "<a>") selfNaming 0 1024) long),
   c .buffer ∙ ap (λ n. leftBy (translated (bytes "<a>") selfNaming 0 1024 n) (Traces.bytes (readingOf (bytes "<a>") selfNaming 0)) out) long,
