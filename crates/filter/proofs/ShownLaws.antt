@@ -7,14 +7,13 @@ use native.Mathlib.Omega.{arith}
 use lib.Dec.{ltb}
 use lib.ListN.{length, drop}
 use borrow.Author.Tests.{ne-eqb}
+use Rattle.paper.specs.Answers.{in-text}
 use Rattle.paper.specs.Refusals.{longest}
-use Rattle.paper.specs.Traces.{Trace, Run, finished, stopped, bytes, run, fit, allowed}
+use Rattle.paper.specs.Traces.{Trace, Run, finished, refused, bytes, run, fit, allowed}
 use Rattle.paper.specs.declared.TextPlace.{TextPlace}
 use Rattle.paper.proofs.Choice.{either}
-use Rattle.paper.proofs.DemandThree.{stopped-number}
-use Rattle.variables.specs.Tables.{checked}
-use Rattle.variables.specs.declared.Checked.{Checked}
-use Rattle.variables.specs.declared.Checked.the-variants.{Good, Refused as Unsound}
+use Rattle.paper.proofs.DemandThree.{refused-number}
+use Rattle.variables.specs.Judgements.{Judged, good, long-text, bad-table, judgement}
 use Rattle.gs.specs.Translations.{readingOf, refusedAt, translatedBy, translatedOver, leftBy, translated, outAfter}
 use Rattle.gs.specs.declared.Translated.{Translated}
 use Rattle.gs.specs.declared.Translated.the-variants.{Written, Refused, BadTable}
@@ -32,22 +31,20 @@ module _ (trace : Trace) (allowance room : ℕ) where
   sized-run (finished end left) e =
       let size = length (bytes trace) in
       either (λ a. Sized (translatedBy a) (bytes trace)) (ltb room size)
-      {y = record { number = 0; place = end; need = size; free = room - size }} (λ _. tt)
+      {y = record { number = 0; counted = in-text; place = end; need = size; free = room - size }} (λ _. tt)
       (λ _. refl)
-  sized-run (stopped number place) e =
+  sized-run (refused number place) e =
       subst (λ z. Sized (cond z (Written (record { 0 = place }) 0 room) (refusedAt number place 0 room)) (bytes trace))
-      (sym (ne-eqb number 0 (λ z. absurd (omega (arith, z, stopped-number trace allowance number place e))))) tt
+      (sym (ne-eqb number 0 (λ z. absurd (omega (arith, z, refused-number trace allowance number place e))))) tt
 
-sized-over : (d : Checked) (trace : Trace) (allowance room : ℕ) → Sized (translatedOver d trace allowance room) (bytes trace)
-sized-over (Good count) trace allowance room = sized-run trace (allowed allowance) room (run trace (allowed allowance)) refl
-sized-over (Unsound number at) trace allowance room = tt
+sized-over : (j : Judged) (trace : Trace) (allowance room : ℕ) → Sized (translatedOver j trace allowance room) (bytes trace)
+sized-over good trace allowance room = sized-run trace (allowed allowance) room (run trace (allowed allowance)) refl
+sized-over long-text trace allowance room = tt
+sized-over (bad-table number place) trace allowance room = tt
 
-module _ (text table : List ℕ) (flags allowance room : ℕ) where
-  sized : Sized (translated text table flags allowance room) (bytes (readingOf text table flags))
-  unfolding translated
-  sized =
-      either (λ r. Sized r (bytes (readingOf text table flags))) (ltb longest (length text)) (λ _. tt)
-      (λ _. sized-over (checked table) (readingOf text table flags) allowance room)
+sized : (text table : List ℕ) (flags allowance room : ℕ) → Sized (translated text table flags allowance room) (bytes (readingOf text table flags))
+unfolding translated
+sized text table flags allowance room = sized-over (judgement text table) (readingOf text table flags) allowance room
 
 -- a translation with no table and no flags, in the room that the program has
 module _ (text table : List ℕ) (flags : ℕ) (out : List ℕ) (no-table : table ≡ []) (no-flags : flags ≡ 0)

@@ -109,7 +109,7 @@ pub fn translate(
     }
     let keyed = variables::key_table(table);
     let checked = keyed.checked;
-    let keys = keyed.keys;
+    let keys: &[u32] = &keyed.keys;
     match checked {
         Checked::BadTable { number, at } => Translated::BadTable {
             number,

@@ -144,7 +144,7 @@ pub fn look_up(table: &[u8], name: &[u8]) -> Found
 {
     let keyed = key_table(table);
     let checked = keyed.checked;
-    let keys = keyed.keys;
+    let keys: &[u32] = &keyed.keys;
     match checked {
         Checked::Good(count) => as_found(find(table, &keys[0..count], name)),
         Checked::BadTable { number, at } => Found::BadTable { number, at },

@@ -69,21 +69,21 @@ part-fill-start c = search needs
 
 part-fill-end : tie.Need-part-fill-end
 part-fill-end c =
-    let k = c .before .before in
-    lines-inside (k .before .before .before .key-table .ensures) (k .checked2 .given .1)
+    let k = c .before in
+    lines-inside (k .before .before .before .before .before .key-table .ensures) (k .checked2 .given .1)
 
 cap-requires : tie.Need-cap-requires
 cap-requires c κs = search needs
 
 fill-requires : tie.Need-fill-requires
 fill-requires c κs =
-    let k = c .before .before .before .before .before in
-    let t = k .before .before .before in
+    let k = c .before .before .before .before in
+    let t = k .before .before .before .before .before in
     (t .before .if1 .left, c .before .cap .ensures .1, all-lines (t .key-table .ensures) (k .checked2 .given .1))
 
 returns-2 : tie.Need-returns-2
 returns-2 c =
-    let t = c .before .before .before .before in
+    let t = c .before .before .before .before .before .before in
     let a = start t .args in
     let e = by-check t (c .before .checked .given .1) in
     (e, left-by (a .text .now) (a .table .now) (a .flags .0) (a .allowance) (a .out .now) _ e)
@@ -93,8 +93,8 @@ same-length c = search needs
 
 returns-3 : tie.Need-returns-3
 returns-3 c =
-    let k = c .before .before .before .before .before .before .before .before in
-    let t = k .before .before .before in
+    let k = c .before .before .before .before .before .before .before in
+    let t = k .before .before .before .before .before in
     let a = start t .args in
     let reading = readingOf (a .text .now) (a .table .now) (a .flags .0) in
     let fill = c .before .before .fill .ensures in

@@ -42,8 +42,8 @@ part-find-start c = search needs
 
 part-find-end : tie.Need-part-find-end
 part-find-end c =
-    let k = c .before .before in
-    lines-inside (k .before .before .before .key-table .ensures) (k .checked .given .1)
+    let k = c .before in
+    lines-inside (k .before .before .before .before .before .key-table .ensures) (k .checked .given .1)
 
 find-requires : tie.Need-find-requires
 find-requires c κs = search needs
@@ -57,15 +57,15 @@ enum-known-checked-2 c = search needs
 returns : tie.Need-returns
 returns c =
     let f = c .before in
-    let k = f .before .before .before .before in
-    let t = k .before .before .before in
+    let k = f .before .before .before in
+    let t = k .before .before .before .before .before in
     let a = start t .args in
     let good = k .checked .given .1 in
     c .as-found .ensures ∙ ap inGoodTable (f .find .ensures ∙ ap (matchAs _) (sought-by-keys _ _ (all-lines (t .key-table .ensures) good)))
     ∙ handed (a .table .now) (soughtIn (a .table .now) (a .name .now)) ∙ in-table t good
 
 returns-2 : tie.Need-returns-2
-returns-2 c = in-table (c .before .before .before .before) (c .before .checked2 .given .1)
+returns-2 c = in-table (c .before .before .before .before .before .before) (c .before .checked2 .given .1)
 
 pub look-up-spec : {M : Type 1} → statement M
 look-up-spec =

@@ -22,8 +22,8 @@ pub(crate) fn answer(
     let found = variables::look_up(held, slices::first(name, letters.count));
     match found {
         Found::At(v) => record(held, v, out),
-        Found::Nothing => answers::put_word(out, 0, b"none"),
-        Found::Unsound { number: _, at: _ } => answers::put_word(out, 0, b"none"),
+        Found::Unknown => answers::put_word(out, 0, b"none"),
+        Found::BadTable { number: _, at: _ } => answers::put_word(out, 0, b"none"),
     }
 }
 
@@ -32,6 +32,7 @@ fn record(table: &[u8], v: Variable, out: &mut [u8]) -> usize {
     let at = v.at;
     let rec = answers::put_word(out, 0, b"rec");
     let place = answers::put_number(out, rec, at.0);
-    let kind = answers::put_number(out, place, v.kind as usize);
-    answers::put_hex(out, kind, variables::value_of(table, v))
+    let kind = v.kind;
+    let kinded = answers::put_number(out, place, kind.number() as usize);
+    answers::put_hex(out, kinded, variables::value_of(table, v))
 }

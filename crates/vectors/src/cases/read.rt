@@ -3,10 +3,8 @@ use crate::answers;
 use crate::fields;
 use crate::fields::Cursor;
 use crate::slices;
+use reader::NO_LIMIT;
 use reader::Reading;
-
-// The largest limit refuses nothing.
-const NO_LIMIT: u32 = 4294967295;
 
 pub(crate) fn answer(line: &[u8], rest: Cursor, text: &mut [u8], out: &mut [u8]) -> usize {
     let bytes = fields::take_bytes(line, rest, text);

@@ -13,7 +13,7 @@ pub(crate) fn answer(line: &[u8], rest: Cursor, table: &mut [u8], out: &mut [u8]
     let checked = variables::check_table(slices::first(table, bytes.count));
     match checked {
         Checked::Good(count) => good(count, out),
-        Checked::Refused { number, at } => answers::refusal_at(out, number, at.0),
+        Checked::BadTable { number, at } => answers::refusal_at(out, number, at.0),
     }
 }
 
