@@ -7,6 +7,7 @@ use Rattle.promises.proofs.ReadingsKept as Readings
 use Rattle.promises.proofs.LookupsKept as Lookups
 use Rattle.promises.proofs.TranslationsKept as Translations
 use Rattle.promises.proofs.EvaluationsKept as Evaluations
+use Rattle.promises.proofs.DeterminedKept.{determined}
 
 pub promises : Promises
 promises =
@@ -51,4 +52,5 @@ promises =
       evaluate-by-reading = Evaluations.by-reading;
       evaluate-larger = Evaluations.larger;
       evaluate-spent = Evaluations.spent-comes;
+      others-determined = determined;
     }

@@ -8,4 +8,5 @@ pub mod ReadingsKept
 pub mod LookupsKept
 pub mod TranslationsKept
 pub mod EvaluationsKept
+pub mod DeterminedKept
 pub mod Kept

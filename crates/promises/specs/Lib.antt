@@ -8,4 +8,5 @@ pub mod Readings
 pub mod Lookups
 pub mod Translations
 pub mod Evaluations
+pub mod Determined
 pub mod Promises

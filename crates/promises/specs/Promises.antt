@@ -6,6 +6,7 @@ use Rattle.promises.specs.Readings as Readings
 use Rattle.promises.specs.Lookups as Lookups
 use Rattle.promises.specs.Translations as Translations
 use Rattle.promises.specs.Evaluations as Evaluations
+use Rattle.promises.specs.Determined.{Determined}
 
 pub record Promises : Type 0 where
   pub worked-examples : All examples
@@ -53,3 +54,5 @@ pub record Promises : Type 0 where
   pub evaluate-by-reading : Evaluations.ByReading
   pub evaluate-larger : Evaluations.Larger
   pub evaluate-spent : Evaluations.Spent
+  -- the other public functions
+  pub others-determined : Determined

@@ -1,0 +1,77 @@
+-- Every public function beside the six operations has one answer: its contract says it as a function of what is given.
+use mathlib.Core.Path.{_≡_, ap, ap₂, sym, subst, _∙_}
+use mathlib.Core.Bool.{not}
+use mathlib.Core.List.{List, _++_}
+use Prim.Native.Nat.{ℕ, _+_}
+use denote.Ref.{now}
+use lib.Dec.{eqb}
+use lib.ListN.{length, take, drop, getD}
+use Rattle.paper.specs.Bytes as Bytes
+use Rattle.paper.specs.Traces.{allowed, faultNumber}
+use Rattle.numbers.specs.Calls.{decimalOf, answerOf, bufferOf, convertedBy}
+use Rattle.reader.specs.Reading.{reading}
+use Rattle.variables.specs.Names.{pattern}
+use Rattle.variables.specs.Records.{nameByte}
+use Rattle.variables.specs.Tables.{kindNumber, checked, lookedUp}
+use Rattle.variables.specs.inner.Keys.{KeyedAs, matchAs, soughtBy}
+use Rattle.variables.proofs.KeysFind.{one-keyed}
+use Rattle.gs.specs.Flags.{has}
+use Rattle.gs.specs.Translations.{translated, outAfter}
+use Rattle.arithmetic.specs.Operators as Operators
+use Rattle.arithmetic.specs.Values.{unaryValue, binaryValue}
+use Rattle.expressions.specs.Answers.{evaluated}
+use Rattle.filter.specs.Answers.{answerTo}
+use Rattle.nosgoludd.specs.Packed.{packedConversion, packedReading, packedCheck, packedFound, packedTranslation, packedEvaluation}
+use Rattle.promises.specs.Determined.{One, Determined}
+
+-- what is seen is a function of what is given
+function-of : {Lifetimes Arguments Answer After Given Seen : Type 0} {Learnt : Lifetimes → Arguments → Answer → After → Type 0}
+    {given : Arguments → Given} {seen : Answer → After → Seen} (f : Given → Seen)
+    → ((κs : Lifetimes) (a : Arguments) (r : Answer) (after : After) → Learnt κs a r after → seen r after ≡ f (given a)) → One Learnt given seen
+function-of f is =
+    record { one = λ κs κs′ a a′ r r′ after after′ same c c′. is κs a r after c ∙ ap f same ∙ sym (is κs′ a′ r′ after′ c′) }
+
+pub determined : Determined
+determined =
+    record {
+      cap = function-of (λ (allowance, _). allowed allowance) (λ κs a r after c. c .0);
+      byte = function-of (λ (text, (at, _)). getD text at 0) (λ κs a r after c. c);
+      among = function-of (λ (low, (high, (c, _))). Bytes.among low high c) (λ κs a r after c. c);
+      is-end = function-of (λ (c, _). Bytes.ends c) (λ κs a r after c. c);
+      skip-spaces = function-of (λ (text, (start, _)). start + Bytes.spaces (drop start text)) (λ κs a r after c. c);
+      fault-number = function-of (λ (fault, _). faultNumber fault) (λ κs a r after c. c);
+      signed-decimal =
+          function-of (λ (value, (out, _)). (length (decimalOf value), decimalOf value ++ drop (length (decimalOf value)) out))
+          (λ κs a r after c. ap₂ (λ r out. (r, out)) (c .0 .0) (c .1));
+      key-table =
+          record { one = λ κs κs′ a a′ r r′ after after′ same c c′. one-keyed (now (a′ .0)) r r′ (subst (λ g. KeyedAs (g .0) r) same c) c′ };
+      value-of = function-of (λ (table, (v, _)). take (v .length) (drop (v .start) table)) (λ κs a r after c. c);
+      find = function-of (λ (table, (keys, (name, _))). matchAs table (soughtBy table keys name)) (λ κs a r after c. c);
+      pattern-of = function-of (λ (value, _). pattern value) (λ κs a r after c. c);
+      kind-number = function-of (λ (kind, _). kindNumber kind) (λ κs a r after c. c);
+      is-name-byte = function-of (λ (c, _). nameByte c) (λ κs a r after c. c);
+      flags-of = function-of (λ (word, _). record { 0 = word }) (λ κs a r after c. ap (λ w. record { 0 = w }) c);
+      flags-none = function-of (λ a. record { 0 = 0 }) (λ κs a r after c. ap (λ w. record { 0 = w }) c);
+      flags-has = function-of (λ (flags, (bit, _)). has (flags .0) bit) (λ κs a r after c. c);
+      level = function-of (λ (operator, _). Operators.levelOf operator) (λ κs a r after c. c);
+      stands-alone = function-of (λ (operator, _). Operators.standsAlone operator) (λ κs a r after c. c);
+      divides = function-of (λ (operator, _). Operators.divides operator) (λ κs a r after c. c);
+      unary = function-of (λ (operator, (v, _)). unaryValue operator v) (λ κs a r after c. c);
+      binary = function-of (λ (operator, (lhs, (rhs, _))). binaryValue operator lhs rhs) (λ κs a r after c. c);
+      answer =
+          function-of (λ (text, (out, _)). (length (answerTo text), answerTo text ++ drop (length (answerTo text)) out))
+          (λ κs a r after c. ap₂ (λ r out. (r, out)) (c .0) (c .1 ∙ ap (λ n. answerTo (now (a .0)) ++ drop n (now (a .1 .0))) (c .0)));
+      nos-convert =
+          function-of (λ (call, (value, (buf, _))). (packedConversion (convertedBy (answerOf call value (length buf))), bufferOf call value buf))
+          (λ κs a r after c. ap₂ (λ r buf. (r, buf)) (c .0) (c .1));
+      nos-read-unsigned =
+          function-of (λ (text, (whole, (limit, _))). packedReading (reading text (not (eqb whole 0)) limit)) (λ κs a r after c. c);
+      nos-check-table = function-of (λ (table, _). packedCheck (checked table)) (λ κs a r after c. c);
+      nos-look-up = function-of (λ (table, (name, _)). packedFound (lookedUp table name)) (λ κs a r after c. c);
+      nos-translate =
+          function-of
+          (λ (text, (table, (flags, (allowance, (out, _))))).
+          (packedTranslation (translated text table flags allowance (length out)), outAfter text table flags allowance out))
+          (λ κs a r after c. ap₂ (λ r out. (r, out)) (c .0) (c .1));
+      nos-evaluate = function-of (λ (text, (table, (allowance, _))). packedEvaluation (evaluated text table allowance)) (λ κs a r after c. c);
+    }

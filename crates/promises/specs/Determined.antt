@@ -1,0 +1,96 @@
+-- That the public functions beside the six operations have one answer too, each by its own contract as a caller learns it. The six have
+-- it in their pages. `filter`'s `run` has it not: its contract leaves open what was read.
+use mathlib.Core.Path.{_≡_}
+use mathlib.Core.List.{List}
+use Prim.Native.Nat.{ℕ}
+use denote.Ref.{RefT, now}
+use Rattle.paper.proofs.allowance.cap.Reads as cap
+use Rattle.paper.proofs.bytes.byte.Reads as byte
+use Rattle.paper.proofs.bytes.among.Reads as among
+use Rattle.paper.proofs.bytes.is_end.Reads as is-end
+use Rattle.paper.proofs.bytes.skip_spaces.Reads as skip-spaces
+use Rattle.paper.proofs.faults.Fault.number.Reads as fault-number
+use Rattle.numbers.proofs.signed_decimal.Reads as signed-decimal
+use Rattle.variables.proofs.key_table.Reads as key-table
+use Rattle.variables.proofs.value_of.Reads as value-of
+use Rattle.variables.proofs.keys.find.Reads as find
+use Rattle.variables.proofs.integers.pattern_of.Reads as pattern-of
+use Rattle.variables.proofs.kinds.Kind.number.Reads as kind-number
+use Rattle.variables.proofs.names.is_name_byte.Reads as is-name-byte
+use Rattle.gs.proofs.flags.Flags.of.Reads as flags-of
+use Rattle.gs.proofs.flags.Flags.none.Reads as flags-none
+use Rattle.gs.proofs.flags.Flags.has.Reads as flags-has
+use Rattle.arithmetic.proofs.operators.Operator.level.Reads as level
+use Rattle.arithmetic.proofs.operators.Operator.stands_alone.Reads as stands-alone
+use Rattle.arithmetic.proofs.operators.Operator.divides.Reads as divides
+use Rattle.arithmetic.proofs.values.unary.Reads as unary
+use Rattle.arithmetic.proofs.values.binary.Reads as binary
+use Rattle.filter.proofs.answer.Reads as answer
+use Rattle.nosgoludd.proofs.nos_convert.Reads as nos-convert
+use Rattle.nosgoludd.proofs.nos_read_unsigned.Reads as nos-read-unsigned
+use Rattle.nosgoludd.proofs.nos_check_table.Reads as nos-check-table
+use Rattle.nosgoludd.proofs.nos_look_up.Reads as nos-look-up
+use Rattle.nosgoludd.proofs.nos_translate.Reads as nos-translate
+use Rattle.nosgoludd.proofs.nos_evaluate.Reads as nos-evaluate
+
+-- Of two calls, anywhere, that are given the same, whatever their callers learn, the same is seen. `Learnt` is a function's contract:
+-- of the lifetimes, the arguments, the answer, and the parameters afterwards
+pub record One {Lifetimes Arguments Answer After Given Seen : Type 0} (Learnt : Lifetimes → Arguments → Answer → After → Type 0)
+    (given : Arguments → Given) (seen : Answer → After → Seen) : Type 0 where
+  pub one : (κs κs′ : Lifetimes) (a a′ : Arguments) (r r′ : Answer) (after after′ : After) → given a ≡ given a′
+      → Learnt κs a r after → Learnt κs′ a′ r′ after′ → seen r after ≡ seen r′ after′
+
+-- What is given, argument by argument: of one that is lent, what it holds, wherever it lies; one that is not, and the rest, as they are
+abbrev pub lent : {X A B : Type 0} → (A → B) → RefT X × A → X × B
+lent behind a = (now (a .0), behind (a .1))
+
+abbrev pub plain : {X A B : Type 0} → (A → B) → X × A → X × B
+plain behind a = (a .0, behind (a .1))
+
+abbrev pub rest : {A : Type 0} → A → A
+rest a = a
+
+-- What is seen: the answer; or, where a buffer is lent to be written to, what that holds afterwards too
+abbrev pub answer-alone : {R S : Type 0} → R → S → R
+answer-alone r after = r
+
+abbrev pub answer-and : {R S : Type 0} → (S → RefT (List ℕ)) → R → S → R × List ℕ
+answer-and buffer r after = (r, now (buffer after))
+
+pub record Determined : Type 0 where
+  -- paper
+  pub cap : One cap.Learnt rest answer-alone
+  pub byte : One byte.Learnt (lent rest) answer-alone
+  pub among : One among.Learnt rest answer-alone
+  pub is-end : One is-end.Learnt rest answer-alone
+  pub skip-spaces : One skip-spaces.Learnt (lent rest) answer-alone
+  pub fault-number : One fault-number.Learnt rest answer-alone
+  -- numbers
+  pub signed-decimal : One signed-decimal.Learnt (plain (lent rest)) (answer-and (λ (value, (out, _)). out))
+  -- variables: the answer of `value_of` is a part of the table, of which the bytes are seen
+  pub key-table : One key-table.Learnt (lent rest) answer-alone
+  pub value-of : One value-of.Learnt (lent rest) (λ r after. now r)
+  pub find : One find.Learnt (lent (lent (lent rest))) answer-alone
+  pub pattern-of : One pattern-of.Learnt (lent rest) answer-alone
+  pub kind-number : One kind-number.Learnt rest answer-alone
+  pub is-name-byte : One is-name-byte.Learnt rest answer-alone
+  -- gs
+  pub flags-of : One flags-of.Learnt rest answer-alone
+  pub flags-none : One flags-none.Learnt rest answer-alone
+  pub flags-has : One flags-has.Learnt rest answer-alone
+  -- arithmetic
+  pub level : One level.Learnt rest answer-alone
+  pub stands-alone : One stands-alone.Learnt rest answer-alone
+  pub divides : One divides.Learnt rest answer-alone
+  pub unary : One unary.Learnt rest answer-alone
+  pub binary : One binary.Learnt rest answer-alone
+  -- filter
+  pub answer : One answer.Learnt (lent (lent rest)) (answer-and (λ (text, (out, _)). out))
+  -- nosgoludd
+  pub nos-convert : One nos-convert.Learnt (plain (plain (lent rest))) (answer-and (λ (call, (value, (buf, _))). buf))
+  pub nos-read-unsigned : One nos-read-unsigned.Learnt (lent rest) answer-alone
+  pub nos-check-table : One nos-check-table.Learnt (lent rest) answer-alone
+  pub nos-look-up : One nos-look-up.Learnt (lent (lent rest)) answer-alone
+  pub nos-translate :
+      One nos-translate.Learnt (lent (lent (plain (plain (lent rest))))) (answer-and (λ (text, (table, (flags, (allowance, (out, _))))). out))
+  pub nos-evaluate : One nos-evaluate.Learnt (lent (lent rest)) answer-alone
