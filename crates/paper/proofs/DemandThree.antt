@@ -8,14 +8,15 @@ use native.Mathlib.Omega.{arith}
 use lib.Dec.{ltb}
 use lib.ListN.{length}
 use Rattle.paper.specs.Answers.{in-text, Answer, Grown}
-use Rattle.paper.specs.Refusals.{no-room, allowance-spent}
+use Rattle.paper.specs.Refusals.{no-room, allowance-spent, over-length}
 use Rattle.paper.specs.Traces.{faultNumber, Trace, ended, faults, gives, asks, spends, enters, bytes, Run, finished, refused, onward, spending, run, runNumber, fit, answer, Ending, done, faulted, beyond, ending, Succeeds, reached, lookUps}
 use Rattle.paper.specs.declared.faults.Fault.{Fault}
 use Rattle.paper.specs.declared.faults.Fault.the-variants.{NoDigit, BadBase, TooBig, BadCode, BadString, BadReference, UnknownName, TooDeep, BadExpression, ZeroDivisor, NotAnInteger}
 use Rattle.paper.proofs.Choice.{below, not-below, either}
 
--- no fault has the number of No room or of Allowance spent
-pub fault-number : (f : Fault) → (1 < faultNumber f) × (faultNumber f ≡ allowance-spent → ⊥) × (faultNumber f ≤ 255)
+-- no fault has the number of No room, of Allowance spent or of Over length
+pub fault-number : (f : Fault)
+    → (1 < faultNumber f) × (faultNumber f ≡ allowance-spent → ⊥) × (faultNumber f ≤ 255) × (faultNumber f ≡ over-length → ⊥)
 fault-number NoDigit = omega arith
 fault-number BadBase = omega arith
 fault-number TooBig = omega arith
@@ -28,9 +29,9 @@ fault-number BadExpression = omega arith
 fault-number ZeroDivisor = omega arith
 fault-number NotAnInteger = omega arith
 
--- a run that is refused has the number of a fault or of Allowance spent, never that of an accepted answer or of No room
+-- a run that is refused has the number of a fault or of Allowance spent, never that of an accepted answer, of No room or of Over length
 record Numbered (r : Run) : Type 0 where
-  number : (n place : ℕ) → r ≡ refused n place → (1 < n) × (n ≤ 255)
+  number : (n place : ℕ) → r ≡ refused n place → (1 < n) × (n ≤ 255) × (n ≡ over-length → ⊥)
 
 finished-numbered : (end left : ℕ) → Numbered (finished end left)
 finished-numbered end left = record { number = λ n place e. absurd (clash n place e) }
@@ -38,11 +39,11 @@ finished-numbered end left = record { number = λ n place e. absurd (clash n pla
     clash : (n place : ℕ) → finished end left ≡ refused n place → ⊥
     clash n place e = let z : _≡_ {A = ℕ} 0 1 = cc in omega arith
 
-refused-numbered : (number place : ℕ) → (1 < number) × (number ≤ 255) → Numbered (refused number place)
+refused-numbered : (number place : ℕ) → (1 < number) × (number ≤ 255) × (number ≡ over-length → ⊥) → Numbered (refused number place)
 refused-numbered number place over = record { number = λ n q e. same n q e }
   where
-    same : (n q : ℕ) → refused number place ≡ refused n q → (1 < n) × (n ≤ 255)
-    same n q e = let s : number ≡ n = cc in omega (arith, over)
+    same : (n q : ℕ) → refused number place ≡ refused n q → (1 < n) × (n ≤ 255) × (n ≡ over-length → ⊥)
+    same n q e = let s : number ≡ n = cc in subst (λ m. (1 < m) × (m ≤ 255) × (m ≡ over-length → ⊥)) s over
 
 onward-numbered : (r : Run) (place : ℕ) (rest : ℕ → Run) → Numbered r → ((left : ℕ) → Numbered (rest left)) → Numbered (onward r place rest)
 onward-numbered (finished end left) place rest s f = f left
@@ -50,14 +51,14 @@ onward-numbered (refused number inner) place rest s f = refused-numbered number 
 
 run-numbered : (t : Trace) (left : ℕ) → Numbered (run t left)
 run-numbered (ended end) left = finished-numbered end left
-run-numbered (faults fault place) left = refused-numbered (faultNumber fault) place (fault-number fault .0, fault-number fault .2)
+run-numbered (faults fault place) left = refused-numbered (faultNumber fault) place (fault-number fault .0, fault-number fault .2, fault-number fault .3)
 run-numbered (gives byte rest) left = run-numbered rest left
 run-numbered (asks name rest) left = run-numbered rest left
 run-numbered (spends place rest) zero = refused-numbered allowance-spent place (omega arith)
 run-numbered (spends place rest) (suc left) = run-numbered rest left
 run-numbered (enters reference value rest) left = onward-numbered (run value left) (reference .place) (run rest) (run-numbered value left) (run-numbered rest)
 
-pub refused-number : (t : Trace) (left number place : ℕ) → run t left ≡ refused number place → (1 < number) × (number ≤ 255)
+pub refused-number : (t : Trace) (left number place : ℕ) → run t left ≡ refused number place → (1 < number) × (number ≤ 255) × (number ≡ over-length → ⊥)
 refused-number t left number place e = run-numbered t left .number number place e
 
 -- the run that reaches where the reading leads, with so many look-ups left
@@ -314,3 +315,49 @@ accepted-need t allowance room = go (run t allowance) refl
     go (refused number place) e = λ z. absurd (omega (arith, refused-number t allowance number place e))
     go (finished end left) e =
         either (λ (a : Answer). a .number ≡ 0 → a .need ≡ length (bytes t)) (ltb room (length (bytes t))) (λ _ z. refl) (λ _ z. refl)
+
+-- an answer is accepted exactly when the reading succeeds within its allowance and what it needs has room
+pub accepted-exactly : (t : Trace) (allowance room : ℕ)
+    → (answer t allowance room .number ≡ 0) ↔ ((lookUps t ≤ allowance) × Succeeds t × (length (bytes t) ≤ room))
+accepted-exactly t allowance room = (λ e. there e (decLt allowance (lookUps t)), back)
+  where
+    by-ending : (o : Ending) → fit (with-left 0 o) (length (bytes t)) room .number ≡ 0 → ((end : ℕ) × (o ≡ done end)) × (length (bytes t) ≤ room)
+    by-ending (done end) e = ((end, refl), fits (decLt room (length (bytes t))))
+      where
+        fits : Dec (room < length (bytes t)) → length (bytes t) ≤ room
+        fits (yes p) = absurd (omega (arith, e, ap (λ (a : Answer). a .number) (refused-fit end 0 (length (bytes t)) room p)))
+        fits (no p) = omega arith
+    by-ending (faulted fault place) e = absurd (omega (arith, fault-number fault .0, e))
+
+    there : answer t allowance room .number ≡ 0 → Dec (allowance < lookUps t) → (lookUps t ≤ allowance) × Succeeds t × (length (bytes t) ≤ room)
+    there e (yes p) = absurd (omega (arith, e, spent-answer t allowance room p))
+    there e (no p) =
+        let within : lookUps t ≤ allowance = omega arith in
+        let both = by-ending (ending t) (sym (ap (λ (a : Answer). a .number) (reading-answer t allowance room within)) ∙ e) in
+        (within, both .0, both .1)
+
+    back : (lookUps t ≤ allowance) × Succeeds t × (length (bytes t) ≤ room) → answer t allowance room .number ≡ 0
+    back s =
+        ap (λ (a : Answer). a .number) (reading-answer t allowance room (s .0))
+        ∙ ap (λ o. fit (with-left 0 o) (length (bytes t)) room .number) (s .1 .1)
+        ∙ sym (ap (λ (a : Answer). a .number) (accepted-fit (s .1 .0) 0 (length (bytes t)) room (s .2)))
+
+-- and a run finishes exactly when the reading succeeds within its allowance
+pub finished-exactly : (t : Trace) (allowance : ℕ) → (runNumber (run t allowance) ≡ 0) ↔ ((lookUps t ≤ allowance) × Succeeds t)
+finished-exactly t allowance = (there (run t allowance) refl, back)
+  where
+    there : (r : Run) → run t allowance ≡ r → runNumber r ≡ 0 → (lookUps t ≤ allowance) × Succeeds t
+    there (finished end left) e z = let w = finished-within t allowance end left e in (w .0, (end, w .1))
+    there (refused number place) e z = absurd (omega (arith, refused-number t allowance number place e .0, z))
+
+    back : (lookUps t ≤ allowance) × Succeeds t → runNumber (run t allowance) ≡ 0
+    back s = reaches t runNumber (record { same = λ end l l′. refl }) allowance (s .0) ∙ ap (λ o. runNumber (with-left 0 o)) (s .1 .1)
+
+-- no answer by a reading has the number of Over length
+pub not-over-length : (t : Trace) (allowance room : ℕ) → answer t allowance room .number ≡ over-length → ⊥
+not-over-length t allowance room = go (run t allowance) refl
+  where
+    go : (r : Run) → run t allowance ≡ r → fit r (length (bytes t)) room .number ≡ over-length → ⊥
+    go (refused number place) e = refused-number t allowance number place e .2
+    go (finished end left) e =
+        either (λ (a : Answer). a .number ≡ over-length → ⊥) (ltb room (length (bytes t))) (λ _ z. omega arith) (λ _ z. omega arith)

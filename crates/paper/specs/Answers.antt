@@ -4,7 +4,8 @@ use mathlib.Core.Path.{_≡_}
 use Prim.Native.Nat.{ℕ, _+_}
 use lib.ListN.{length, take, drop}
 
--- what a place is counted in: the text, or the table of variables
+-- what a place is counted in: the text, or the table of variables. The offset that a conversion gives is one in the lent buffer, and is
+-- counted as a text's
 abbrev pub in-text : ℕ
 in-text = 0
 

@@ -36,7 +36,7 @@ pub data Trace : Type 0 where
   faults : Fault → ℕ → Trace
   -- one byte
   gives : ℕ → Trace → Trace
-  -- the tables are asked for a name
+  -- a name is asked for
   asks : List ℕ → Trace → Trace
   -- one look-up, at this place
   spends : ℕ → Trace → Trace

@@ -1,17 +1,22 @@
 -- What `convert` promises is kept.
 use mathlib.Core.Path.{_≡_, refl, ap, ap₂, sym, subst, _∙_}
 use mathlib.Core.List.{List, [], _++_, append-nil}
+use mathlib.Core.Bool.{true}
+use mathlib.Core.Logic.{_↔_}
 use Prim.Native.Nat.{ℕ, _+_, _-_, _≤_, _<_}
 use native.Mathlib.Omega.{arith}
+use borrow.Author.Tests.{eqb-false}
+use lib.Dec.{eqb}
 use lib.ListN.{length, take, drop, length-append}
 use lib.Seq.{take-append-seam}
 use Rattle.paper.specs.Answers.{in-text, Answer, refusal, GrownWhole}
 use Rattle.paper.specs.Layings.{terminator, roomFor}
 use Rattle.paper.specs.Refusals.{no-room, unknown-call, longest}
+use Rattle.paper.proofs.Choice.{clash, either}
 use Rattle.paper.proofs.Laid as Laid
 use Rattle.paper.proofs.Laid.{no-room-for, laid, grows-by}
 use Rattle.numbers.specs.Strings.{Form, used, string}
-use Rattle.numbers.specs.Calls.{unknown, known, described, convertedAnswer}
+use Rattle.numbers.specs.Calls.{unknown, known, described, answerOf, convertedBy, convertedAnswer}
 use Rattle.numbers.specs.declared.Converted.{Converted}
 use Rattle.numbers.specs.declared.forms.Base.{Base}
 use Rattle.numbers.specs.declared.forms.Base.the-variants.{Two, Ten, Sixteen}
@@ -19,11 +24,22 @@ use Rattle.numbers.proofs.Bounds.{string-short}
 use Rattle.reader.specs.Reading.{no-limit, reading, valued, readNumber, readPlace, readValue}
 use Rattle.promises.specs.Leads.{lead}
 use Rattle.promises.proofs.ReadBack.{read-back}
-use Rattle.promises.specs.Conversions.{OneAnswer, needed, Refuses, Refusals, Tells, Exact, OffsetAndFree, Bytes, ReadAs, ReadsBack, LargerRoom, SecondAsk}
+use Rattle.promises.specs.Accepted.{isConverted}
+use Rattle.promises.specs.Conversions.{OneAnswer, Accepts, needed, Refuses, Refusals, Tells, Exact, OffsetAndFree, Bytes, ReadAs, ReadsBack, LargerRoom, SecondAsk}
 use Rattle.promises.proofs.Outcomes.{Outcome, refuses, lays, one-form, not-both, outcome}
 
 pub one-answer : OneAnswer
 one-answer call value buf after after′ r r′ c c′ = (c .answer ∙ sym (c′ .answer), c .buffer ∙ sym (c′ .buffer))
+
+-- an answer as the code has it is accepted exactly where its number is 0
+accepts-by : (a : Answer) → (convertedAnswer (convertedBy a) .number ≡ 0) ↔ (isConverted (convertedBy a) ≡ true)
+accepts-by a =
+    either (λ r. (convertedAnswer r .number ≡ 0) ↔ (isConverted r ≡ true)) (eqb (a .number) 0)
+    (λ _. (λ _. refl, λ _. refl)) (λ e. (λ z. absurd (eqb-false (a .number) 0 e z), λ z. clash (cc)))
+
+pub accepts : Accepts
+accepts call value buf after r c =
+    subst (λ r. (convertedAnswer r .number ≡ 0) ↔ (isConverted r ≡ true)) (sym (c .answer)) (accepts-by (answerOf call value (length buf)))
 
 -- two forms of one call need the same room
 same-need : (call value : ℕ) (f g : Form) → described call ≡ known f → described call ≡ known g → needed f value ≡ needed g value

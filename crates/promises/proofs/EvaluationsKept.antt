@@ -1,23 +1,48 @@
 -- What `evaluate` promises is kept: demand 3 is that of every trace, at the trace of the evaluation.
 use mathlib.Core.Path.{_≡_, refl, ap, sym, subst, _∙_}
+use mathlib.Core.Bool.{true}
 use mathlib.Core.List.{List, Memᴰ·cast}
 use mathlib.Core.Logic.{_↔_}
 use Prim.Native.Nat.{ℕ, _+_, _-_, _≤_, _<_}
 use native.Mathlib.Omega.{arith}
 use Rattle.paper.specs.Answers.{in-text}
 use Rattle.paper.specs.Refusals.{allowance-spent}
-use Rattle.paper.specs.Traces.{Run, finished, refused, run, runNumber, runPlace, lookUps, allowed}
+use Rattle.paper.specs.Traces.{Run, finished, refused, run, runNumber, runPlace, Succeeds, lookUps, allowed}
 use Rattle.paper.proofs.Choice.{clash}
-use Rattle.paper.proofs.DemandThree.{run-more, run-spent}
+use Rattle.paper.proofs.DemandThree.{refused-number, run-more, run-spent, finished-exactly}
 use Rattle.variables.specs.Judgements.{Judged, good, long-text, bad-table, judgement}
 use Rattle.variables.proofs.Judging.{bad-number}
 use Rattle.expressions.specs.Answers.{readingOf, valueIn, evaluatedBy, evaluated, evaluatedNumber, evaluatedPattern}
 use Rattle.expressions.specs.declared.Evaluated.{Evaluated}
 use Rattle.expressions.proofs.Orders.{by-judgement, when-good, when-long-text, when-bad-table, evaluated-listed, accepted}
-use Rattle.promises.specs.Evaluations.{OneAnswer, Refusals, Valued, Placed, JudgedAs, ByReading, Larger, Spent}
+use Rattle.promises.specs.Accepted.{isEvaluated}
+use Rattle.promises.specs.Evaluations.{OneAnswer, Accepts, Refusals, Valued, Placed, JudgedAs, ByReading, Accepted, Larger, Spent}
 
 pub one-answer : OneAnswer
 one-answer text table allowance r r′ c c′ = c .answer ∙ sym (c′ .answer)
+
+accepts-run : (r : Run) (value : ℕ) → ((number place : ℕ) → r ≡ refused number place → 0 < number)
+    → (evaluatedNumber (evaluatedBy r value) ≡ 0) ↔ (isEvaluated (evaluatedBy r value) ≡ true)
+accepts-run (finished end left) value n = (λ _. refl, λ _. refl)
+accepts-run (refused number place) value n = (λ z. absurd (omega (arith, n number place refl)), λ z. clash (cc))
+
+module _ (text table : List ℕ) (allowance : ℕ) where
+  accepts-by : (d : Judged) → judgement text table ≡ d
+      → (evaluatedNumber (evaluated text table allowance) ≡ 0) ↔ (isEvaluated (evaluated text table allowance) ≡ true)
+  accepts-by good e =
+      let t = readingOf text table in
+      subst (λ r. (evaluatedNumber r ≡ 0) ↔ (isEvaluated r ≡ true)) (sym (when-good text table allowance e))
+      (accepts-run (run t (allowed allowance)) (valueIn text table) (λ n p q. omega (arith, refused-number t (allowed allowance) n p q .0)))
+  accepts-by long-text e =
+      subst (λ r. (evaluatedNumber r ≡ 0) ↔ (isEvaluated r ≡ true)) (sym (by-judgement text table allowance long-text e))
+      (λ z. absurd (omega arith), λ z. clash (cc))
+  accepts-by (bad-table number place) e =
+      subst (λ r. (evaluatedNumber r ≡ 0) ↔ (isEvaluated r ≡ true)) (sym (by-judgement text table allowance (bad-table number place) e))
+      (λ z. absurd (omega (arith, bad-number text table number place e)), λ z. clash (cc))
+
+pub accepts : Accepts
+accepts text table allowance r c =
+    subst (λ r. (evaluatedNumber r ≡ 0) ↔ (isEvaluated r ≡ true)) (sym (c .answer)) (accepts-by text table allowance (judgement text table) refl)
 
 pub refusals : Refusals
 refusals text table allowance r c = Memᴰ·cast (ap evaluatedNumber (c .answer)) (evaluated-listed text table allowance)
@@ -64,6 +89,21 @@ larger text table allowance allowance′ r r′ up c c′ n = c′ .answer ∙ g
     go long-text e = by-judgement text table allowance′ long-text e ∙ sym (by-judgement text table allowance long-text e)
     go (bad-table number place) e =
         by-judgement text table allowance′ (bad-table number place) e ∙ sym (by-judgement text table allowance (bad-table number place) e)
+
+pub accepted-when : Accepted
+accepted-when text table allowance r c = go (judgement text table) refl (by-reading text table allowance r c)
+  where
+    go : (d : Judged) → judgement text table ≡ d → JudgedAs d (readingOf text table) allowance r
+        → (evaluatedNumber r ≡ 0)
+        ↔ ((judgement text table ≡ good) × (lookUps (readingOf text table) ≤ allowed allowance) × Succeeds (readingOf text table))
+    go good e p =
+        let exactly = finished-exactly (readingOf text table) (allowed allowance) in
+        (λ h. let s = exactly .0 (sym (p .number) ∙ h) in (e, s .0, s .1), λ h. p .number ∙ exactly .1 (h .1, h .2))
+    go long-text e p = (λ h. absurd (omega (arith, p .number)), λ h. clash (cc (e, h .0)))
+    go (bad-table number place) e p = (
+      λ h. absurd (omega (arith, p .number, bad-number text table number place e)),
+      λ h. clash (cc (e, h .0)),
+    )
 
 pub spent-comes : Spent
 spent-comes text table allowance r c = go (judgement text table) refl (by-reading text table allowance r c)

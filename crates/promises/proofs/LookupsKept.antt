@@ -1,20 +1,25 @@
 -- What `check_table` and `look_up` promise is kept.
 use mathlib.Core.Path.{_≡_, refl, ap, sym, subst, _∙_}
-use mathlib.Core.List.{List, map, flatten, Memᴰ·cast}
+use mathlib.Core.Bool.{true, false}
+use mathlib.Core.List.{List, List·Memᴰ, Memᴰ·cast}
+use mathlib.Core.Logic.{_↔_}
 use Prim.Native.Nat.{ℕ, _+_, _≤_}
 use native.Mathlib.Omega.{arith}
 use lib.ListN.{length}
+use Rattle.paper.specs.Refusals.{unknown-name}
 use Rattle.paper.proofs.Choice.{clash}
-use Rattle.variables.specs.Records.{recordBytes, Sought, absent, present}
-use Rattle.variables.specs.Tables.{checked, recordsOf, soughtIn, foundAs, foundIn, lookedUp, checkNumber, checkCount, foundNumber, foundStart, foundLength}
+use Rattle.variables.specs.Records.{Entry, sameName, Sought, absent, present}
+use Rattle.variables.specs.Tables.{checked, recordsOf, soughtIn, foundAs, foundIn, lookedUp, checkNumber, foundNumber, foundStart, foundLength}
 use Rattle.variables.specs.declared.Checked.{Checked}
-use Rattle.variables.specs.declared.Checked.the-variants.{Good, BadTable}
+use Rattle.variables.specs.declared.Checked.the-variants.{Good as GoodTable, BadTable}
 use Rattle.variables.specs.declared.Found.{Found}
-use Rattle.variables.proofs.Bounds.{Bounded, checked-bounded, looked-up-bounded}
-use Rattle.variables.proofs.Format.{format, counted}
-use Rattle.variables.proofs.Good.{laid, wholes}
-use Rattle.variables.proofs.Unique.{found}
-use Rattle.promises.specs.Lookups.{OneCheck, OneFound, CheckRefusals, LookUpRefusals, Records, Inside}
+use Rattle.variables.proofs.Bounds.{checked-bounded, over-length-exactly, looked-up-bounded}
+use Rattle.variables.proofs.Format.{format}
+use Rattle.variables.proofs.Good.{laid, wholes, value-part}
+use Rattle.variables.proofs.KindLaws.{kind-number}
+use Rattle.variables.proofs.Unique.{found, unique, missed, unmet}
+use Rattle.promises.specs.Accepted.{isGood, isKnown}
+use Rattle.promises.specs.Lookups.{OneCheck, OneFound, CheckAccepts, LookUpAccepts, CheckRefusals, LookUpRefusals, OverLength, Records, Good, Names, Finds, Misses, Inside}
 
 pub one-check : OneCheck
 one-check table r r′ c c′ = c .answer ∙ sym (c′ .answer)
@@ -28,30 +33,109 @@ check-refusals table r c = Memᴰ·cast (ap checkNumber (c .answer)) (checked-bo
 pub look-up-refusals : LookUpRefusals
 look-up-refusals table name r c = Memᴰ·cast (ap foundNumber (c .answer)) (looked-up-bounded table name .listed)
 
-pub records : Records
-records table r c n = go r (sym (c .answer)) n
-  where
-    go : (d : Checked) → checked table ≡ d → checkNumber d ≡ 0
-        → (table ≡ flatten (map recordBytes (recordsOf table))) × (length (recordsOf table) ≡ checkCount d)
-    go (Good count) e z = (format table e, counted table e)
-    go (BadTable number at) e z = absurd (omega (arith, checked-bounded table .refused number at e))
+pub over-length : OverLength
+over-length table r c = subst (λ n. (n ≡ _) ↔ _) (sym (ap checkNumber (c .answer))) (over-length-exactly table)
+
+module _ (table : List ℕ) where
+  -- a table whose number is 0 is a good one
+  check-accepts-by : (d : Checked) → checked table ≡ d → (checkNumber d ≡ 0) ↔ (isGood d ≡ true)
+  check-accepts-by (GoodTable n) e = (λ _. refl, λ _. refl)
+  check-accepts-by (BadTable number at) e = (λ z. absurd (omega (arith, checked-bounded table .refused number at e)), λ z. clash (cc))
+
+  records-of : (d : Checked) → checked table ≡ d → checkNumber d ≡ 0 → Records table d
+  records-of (GoodTable n) e z =
+      let l = laid table e in
+      record { bytes = format table e; count = l .counted; few = l .few; sounds = l .sounds; unequal = λ e f a b same. unique l a b same }
+  records-of (BadTable number at) e z = absurd (omega (arith, checked-bounded table .refused number at e))
+
+pub check-accepts : CheckAccepts
+check-accepts table r c = check-accepts-by table r (sym (c .answer))
+
+pub records : Good
+records table r c = records-of table r (sym (c .answer))
 
 module _ (table name : List ℕ) where
-  record-inside : (n : ℕ) (s : Sought) → checked table ≡ Good n → soughtIn table name ≡ s → foundNumber (foundAs table s) ≡ 0
-      → foundStart (foundAs table s) + foundLength (foundAs table s) ≤ length table
-  record-inside n absent good e z = absurd (omega arith)
-  record-inside n (present entry) good e z =
-      let l = laid table good in
-      let w = wholes l (found (recordsOf table) name e .0) in
-      omega (arith, w .inside, w .name-length, w .value-length)
+  -- in a good table: the record that has the name, or none
+  module _ (n : ℕ) (good : checked table ≡ GoodTable n) where
+    names-in : (s : Sought) → soughtIn table name ≡ s → foundNumber (foundAs table s) ≡ 0 → Names table name (foundAs table s)
+    names-in absent e z = absurd (omega arith)
+    names-in (present entry) e z =
+        let l = laid table good in
+        let f = found (recordsOf table) name e in
+        let w = wholes l (f .0) in
+        record {
+          entry = entry;
+          member = f .0;
+          named = f .1;
+          place = refl;
+          kind = kind-number (entry .kind) (w .kind);
+          value = value-part w;
+        }
 
-  in-checked : (d : Checked) → checked table ≡ d → foundNumber (foundIn table name d) ≡ 0
+    known-in : (s : Sought) → (foundNumber (foundAs table s) ≡ 0) ↔ (isKnown (foundAs table s) ≡ true)
+    known-in absent = (λ z. absurd (omega arith), λ z. clash (cc))
+    known-in (present entry) = (λ _. refl, λ _. refl)
+
+    missed-in : (s : Sought) → soughtIn table name ≡ s
+        → (foundNumber (foundAs table s) ≡ unknown-name) ↔ ((e : Entry) → List·Memᴰ e (recordsOf table) → sameName (e .name) name ≡ false)
+    missed-in absent e = (λ _. missed (laid table good) name e, λ _. refl)
+    missed-in (present entry) e = (
+      λ z. absurd (omega arith),
+      λ h. clash (cc (sym e ∙ unmet (recordsOf table) name h)),
+    )
+
+    inside-in : (s : Sought) → soughtIn table name ≡ s → foundNumber (foundAs table s) ≡ 0
+        → foundStart (foundAs table s) + foundLength (foundAs table s) ≤ length table
+    inside-in absent e z = absurd (omega arith)
+    inside-in (present entry) e z =
+        let w = wholes (laid table good) (found (recordsOf table) name e .0) in
+        omega (arith, w .inside, w .name-length, w .value-length)
+
+  -- in any bytes: a table that is not good has a refusal's number, which is not that of an unknown name
+  known-by : (d : Checked) → checked table ≡ d → (foundNumber (foundIn table name d) ≡ 0) ↔ (isKnown (foundIn table name d) ≡ true)
+  known-by (GoodTable n) e = known-in n e (soughtIn table name)
+  known-by (BadTable number at) e = (λ z. absurd (omega (arith, checked-bounded table .refused number at e)), λ z. clash (cc))
+
+  names-by : (d : Checked) → checked table ≡ d → foundNumber (foundIn table name d) ≡ 0 → Names table name (foundIn table name d)
+  names-by (GoodTable n) e z = names-in n e (soughtIn table name) refl z
+  names-by (BadTable number at) e z = absurd (omega (arith, checked-bounded table .refused number at e))
+
+  missed-by : (d : Checked) → checked table ≡ d
+      → (foundNumber (foundIn table name d) ≡ unknown-name)
+      ↔ ((checkNumber d ≡ 0) × ((e : Entry) → List·Memᴰ e (recordsOf table) → sameName (e .name) name ≡ false))
+  missed-by (GoodTable n) e = let m = missed-in n e (soughtIn table name) refl in (λ z. (refl, m .0 z), λ h. m .1 (h .1))
+  missed-by (BadTable number at) e = (
+    λ z. absurd (omega (arith, checked-bounded table .refused number at e)),
+    λ h. absurd (omega (arith, checked-bounded table .refused number at e, h .0)),
+  )
+
+  inside-by : (d : Checked) → checked table ≡ d → foundNumber (foundIn table name d) ≡ 0
       → foundStart (foundIn table name d) + foundLength (foundIn table name d) ≤ length table
-  in-checked (Good n) good z = record-inside n (soughtIn table name) good refl z
-  in-checked (BadTable number at) bad z = omega (arith, z)
+  inside-by (GoodTable n) e z = inside-in n e (soughtIn table name) refl z
+  inside-by (BadTable number at) e z = omega arith
+
+  defined : foundIn table name (checked table) ≡ lookedUp table name
+  unfolding lookedUp
+  defined = refl
+
+-- a look-up's answer is that in the table as it was checked
+checked-as : (table name : List ℕ) (r : Found) → r ≡ lookedUp table name → foundIn table name (checked table) ≡ r
+checked-as table name r e = defined table name ∙ sym e
+
+pub look-up-accepts : LookUpAccepts
+look-up-accepts table name r c =
+    subst (λ r. (foundNumber r ≡ 0) ↔ (isKnown r ≡ true)) (checked-as table name r (c .answer)) (known-by table name (checked table) refl)
+
+pub finds : Finds
+finds table name r c =
+    subst (λ r. foundNumber r ≡ 0 → Names table name r) (checked-as table name r (c .answer)) (names-by table name (checked table) refl)
+
+pub misses : Misses
+misses table name r c =
+    subst (λ r. (foundNumber r ≡ unknown-name) ↔ ((checkNumber (checked table) ≡ 0) × ((e : Entry) → List·Memᴰ e (recordsOf table) → sameName (e .name) name ≡ false)))
+    (checked-as table name r (c .answer)) (missed-by table name (checked table) refl)
 
 pub inside : Inside
-unfolding lookedUp
-inside table name r c z =
-    subst (λ (f : Found). foundStart f + foundLength f ≤ length table) (sym (c .answer))
-    (in-checked table name (checked table) refl (ap foundNumber (sym (c .answer)) ∙ z))
+inside table name r c =
+    subst (λ (f : Found). foundNumber f ≡ 0 → foundStart f + foundLength f ≤ length table) (checked-as table name r (c .answer))
+    (inside-by table name (checked table) refl)

@@ -1,25 +1,31 @@
 -- What `translate` promises is kept: demand 3 is that of every trace, at the trace of the reading.
 use mathlib.Core.Path.{_≡_, refl, ap, ap₂, sym, subst, subst₂, _∙_}
+use mathlib.Core.Bool.{true}
 use mathlib.Core.List.{List, Memᴰ·cast, _++_}
 use mathlib.Core.Logic.{_↔_}
 use Prim.Native.Nat.{ℕ, _+_, _-_, _≤_, _<_}
 use native.Mathlib.Decide.{decLt}
 use native.Mathlib.Omega.{arith}
+use borrow.Author.Tests.{eqb-false}
+use lib.Dec.{eqb}
 use lib.ListN.{length, take, drop}
 use lib.Seq.{take-append-seam, drop-append-seam}
-use Rattle.paper.specs.Answers.{Answer, Grown, GrownWhole}
-use Rattle.paper.specs.Refusals.{no-room, allowance-spent}
+use Rattle.paper.specs.Answers.{in-text, in-table, Answer, Grown, GrownWhole}
+use Rattle.paper.specs.Refusals.{no-room, allowance-spent, over-length, longest}
 use Rattle.paper.specs.Traces.{Trace, bytes, answer, Succeeds, lookUps, allowed}
-use Rattle.paper.proofs.Choice.{clash}
-use Rattle.paper.proofs.DemandThree.{more-of-both, need-stays, second-ask, no-room-exactly, no-room-need, spent-exactly, refused-answer, accepted-need}
+use Rattle.paper.proofs.Choice.{clash, either}
+use Rattle.paper.proofs.DemandThree.{more-of-both, need-stays, second-ask, no-room-exactly, no-room-need, spent-exactly, refused-answer, accepted-need, accepted-exactly, not-over-length}
 use Rattle.variables.specs.Judgements.{Judged, good, long-text, bad-table, judgement}
-use Rattle.variables.proofs.Judging.{bad-number}
-use Rattle.gs.specs.Translations.{readingOf, translated, translatedAnswer}
+use Rattle.variables.specs.Tables.{checked, checkNumber}
+use Rattle.variables.proofs.Bounds.{over-length-exactly}
+use Rattle.variables.proofs.Judging.{over-exactly, read, refused, bad-number}
+use Rattle.gs.specs.Translations.{readingOf, translatedBy, translatedOver, translated, translatedAnswer}
 use Rattle.gs.specs.declared.Translated.{Translated}
 use Rattle.gs.proofs.Answers.{good-answer, long-text-answer, bad-table-answer, written-buffer, kept-buffer}
 use Rattle.gs.proofs.Limits.{translated-listed}
+use Rattle.promises.specs.Accepted.{isTranslated}
 use Rattle.promises.specs.Allowed.{Translates}
-use Rattle.promises.specs.Translations.{OneAnswer, Refusals, Refused, Kept, Bytes, judgedAnswer, ByReading, Larger, NoRoom, Need, Spent, SecondAsk}
+use Rattle.promises.specs.Translations.{OneAnswer, Accepts, Refusals, Refused, Kept, Bytes, judgedAnswer, ByReading, Accepted, OverLength, Larger, NoRoom, Need, Spent, SecondAsk}
 
 pub one-answer : OneAnswer
 one-answer text table flags allowance out after after′ r r′ c c′ = (c .answer ∙ sym (c′ .answer), c .buffer ∙ sym (c′ .buffer))
@@ -111,6 +117,48 @@ module _ (text table : List ℕ) (flags allowance room : ℕ) where
         λ h. absurd (not-good text table (bad-table number place) e (λ q. clash (cc)) (h .0)),
       )
 
+  judged-accepted : (judged .number ≡ 0)
+      ↔ ((judgement text table ≡ good) × (lookUps reading ≤ allowed allowance) × Succeeds reading × (length (bytes reading) ≤ room))
+  judged-accepted = go (judgement text table) refl
+    where
+      go : (d : Judged) → judgement text table ≡ d
+          → (judgedAnswer d reading allowance room .number ≡ 0)
+          ↔ ((judgement text table ≡ good) × (lookUps reading ≤ allowed allowance) × Succeeds reading × (length (bytes reading) ≤ room))
+      go good e =
+          let exactly = accepted-exactly reading (allowed allowance) room in
+          (λ h. let s = exactly .0 h in (e, s .0, s .1, s .2), λ h. exactly .1 (h .1, h .2, h .3))
+      go long-text e = (λ h. absurd (omega arith), λ h. absurd (not-good text table long-text e (λ q. clash (cc)) (h .0)))
+      go (bad-table number place) e = (
+        λ h. absurd (omega (arith, bad-number text table number place e)),
+        λ h. absurd (not-good text table (bad-table number place) e (λ q. clash (cc)) (h .0)),
+      )
+
+  -- 18 of the text, and 18 of the table
+  judged-over : (((judged .number ≡ over-length) × (judged .counted ≡ in-text)) ↔ (longest < length text))
+      × (((judged .number ≡ over-length) × (judged .counted ≡ in-table)) ↔ ((length text ≤ longest) × (longest < length table)))
+  judged-over = go (judgement text table) refl
+    where
+      go : (d : Judged) → judgement text table ≡ d
+          → (((judgedAnswer d reading allowance room .number ≡ over-length) × (judgedAnswer d reading allowance room .counted ≡ in-text)) ↔ (longest < length text))
+          × (((judgedAnswer d reading allowance room .number ≡ over-length) × (judgedAnswer d reading allowance room .counted ≡ in-table))
+          ↔ ((length text ≤ longest) × (longest < length table)))
+      go good e =
+          let r = read text table e in
+          let never : answer reading (allowed allowance) room .number ≡ over-length → ⊥ = not-over-length reading (allowed allowance) room in (
+            (λ h. absurd (never (h .0)), λ h. absurd (omega (arith, r .0))),
+            (λ h. absurd (never (h .0)), λ h. absurd (omega (arith, sym (over-length-exactly table .1 (h .1)) ∙ ap checkNumber (r .1 .1)))),
+          )
+      go long-text e = (
+        (λ h. over-exactly text table .0 e, λ h. (refl, refl)),
+        (λ h. absurd (omega (arith, h .1)), λ h. absurd (omega (arith, over-exactly text table .0 e, h .0))),
+      )
+      go (bad-table number place) e =
+          let r = refused text table number place e in
+          let same : checkNumber (checked table) ≡ number = ap checkNumber (r .1) in (
+            (λ h. absurd (omega (arith, h .1)), λ h. absurd (omega (arith, r .0))),
+            (λ h. (r .0, over-length-exactly table .0 (same ∙ h .0)), λ h. (sym same ∙ over-length-exactly table .1 (h .1), refl)),
+          )
+
   judged-spent : (judged .number ≡ allowance-spent) ↔ ((judgement text table ≡ good) × (allowed allowance < lookUps reading))
   judged-spent = go (judgement text table) refl
     where
@@ -124,6 +172,27 @@ module _ (text table : List ℕ) (flags allowance room : ℕ) where
         λ h. absurd (omega (arith, bad-number text table number place e)),
         λ h. absurd (not-good text table (bad-table number place) e (λ q. clash (cc)) (h .0)),
       )
+
+-- an answer as the code has it is accepted exactly where its number is 0
+accepts-by : (a : Answer) → (translatedAnswer (translatedBy a) .number ≡ 0) ↔ (isTranslated (translatedBy a) ≡ true)
+accepts-by a =
+    either (λ r. (translatedAnswer r .number ≡ 0) ↔ (isTranslated r ≡ true)) (eqb (a .number) 0)
+    (λ _. (λ _. refl, λ _. refl)) (λ e. (λ z. absurd (eqb-false (a .number) 0 e z), λ z. clash (cc)))
+
+module _ (text table : List ℕ) (flags allowance room : ℕ) where
+  accepts-over : (d : Judged) → judgement text table ≡ d
+      → let r = translatedOver d (readingOf text table flags) allowance room in (translatedAnswer r .number ≡ 0) ↔ (isTranslated r ≡ true)
+  accepts-over good e = accepts-by (answer (readingOf text table flags) (allowed allowance) room)
+  accepts-over long-text e = (λ z. absurd (omega arith), λ z. clash (cc))
+  accepts-over (bad-table number place) e = (λ z. absurd (omega (arith, bad-number text table number place e)), λ z. clash (cc))
+
+  accepts-translated : let r = translated text table flags allowance room in (translatedAnswer r .number ≡ 0) ↔ (isTranslated r ≡ true)
+  unfolding translated
+  accepts-translated = accepts-over (judgement text table) refl
+
+pub accepts : Accepts
+accepts text table flags allowance out after r c =
+    subst (λ r. (translatedAnswer r .number ≡ 0) ↔ (isTranslated r ≡ true)) (sym (c .answer)) (accepts-translated text table flags allowance (length out))
 
 pub refusals : Refusals
 refusals text table flags allowance out after r c =
@@ -187,6 +256,18 @@ larger text table flags allowance allowance′ more out after out′ after′ r 
         (refused-free text table flags allowance out after r c z .1 n)
         (kept text table flags allowance′ out′ after′ r′ c′ (λ e. z (sym (grown .number) ∙ e)))
 
+pub accepted : Accepted
+accepted text table flags allowance out after r c =
+    let same = number-by (by-reading text table flags allowance out after r c) in
+    let exactly = judged-accepted text table flags allowance (length out) in
+    (λ h. exactly .0 (sym same ∙ h), λ h. same ∙ exactly .1 h)
+
+pub over-length-comes : OverLength
+over-length-comes text table flags allowance out after r c =
+    subst (λ (a : Answer). (((a .number ≡ over-length) × (a .counted ≡ in-text)) ↔ (longest < length text))
+    × (((a .number ≡ over-length) × (a .counted ≡ in-table)) ↔ ((length text ≤ longest) × (longest < length table))))
+    (sym (by-reading text table flags allowance out after r c)) (judged-over text table flags allowance (length out))
+
 pub no-room-comes : NoRoom
 no-room-comes text table flags allowance out after r c =
     let same = number-by (by-reading text table flags allowance out after r c) in
@@ -215,10 +296,10 @@ module _ (text table : List ℕ) (flags allowance : ℕ) (out after : List ℕ) 
   lacks = sym (number-by (read-as allowance out after r c)) ∙ e
 
 pub need : Need
-need text table flags allowance allowance′ out after after′ r r′ up c c′ e =
+need text table flags allowance allowance′ out after out′ after′ r r′ up long c c′ e =
     let t = readingOf text table flags in
     let same = read-as text table flags allowance out after r c e allowance out after r c in
-    let same′ = read-as text table flags allowance out after r c e allowance′ out after′ r′ c′ in
+    let same′ = read-as text table flags allowance out after r c e allowance′ out′ after′ r′ c′ ∙ ap (answer t (allowed allowance′)) long in
     let l = lacks text table flags allowance out after r c e in (
       ap (λ (a : Answer). a .need) same ∙ no-room-need t (allowed allowance) (length out) l,
       same′ ∙ ap (λ k. answer t k (length out)) (sym (added t allowance allowance′ up))

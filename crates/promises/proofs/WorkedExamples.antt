@@ -145,10 +145,17 @@ names-itself out after r long c = (
   c .buffer ∙ ap (λ n. leftBy (translated (bytes "<a>") selfNaming 0 1024 n) (Traces.bytes (readingOf (bytes "<a>") selfNaming 0)) out) long,
 )
 
+names-itself-behind : Holds (stops "xy<a>" selfNaming 3 9 allowance-spent 2)
+unfolding translated outAfter scanned sound headed sized fitting nameAt valueAt nameByte small sameName entryAt entries sought meant nameGives contentGives symbolGives symbolsFrom wholeText expands symbolAt active barred code coded punctuation toppedCode toppedSymbol referred closed quotedOther firstAt modeOf reading numbered inBase judged digit string digits enough
+names-itself-behind out after r long c = (
+  ap translatedAnswer (c .answer ∙ ap (translated (bytes "xy<a>") selfNaming 0 3) long),
+  c .buffer ∙ ap (λ n. leftBy (translated (bytes "xy<a>") selfNaming 0 3 n) (Traces.bytes (readingOf (bytes "xy<a>") selfNaming 0)) out) long,
+)
+
 zero-divisor-unread : Holds (fails "1/0+(" [] 0 bad-expression 5)
 unfolding evaluated checked scanned startingAt wordToken wordByte signAt single fromLess fromGreater faultOf operatorsFrom operandAt wholeTree divided signed sum difference product quotient remainder reading numbered inBase judged digit
 zero-divisor-unread r c = (ap evaluatedNumber (c .answer), ap evaluatedCounted (c .answer), ap evaluatedPlace (c .answer))
 
 -- the table, whole
 pub worked-examples : All examples
-worked-examples = (p1, (p2, (p3, (p4, (p5, (p6, (p7, (p8, (p9, (p10, (p11, (p12, (p13, (p14, (p15, (empty-text, (names-itself-thrice, (names-itself, (zero-divisor-unread, tt)))))))))))))))))))
+worked-examples = (p1, (p2, (p3, (p4, (p5, (p6, (p7, (p8, (p9, (p10, (p11, (p12, (p13, (p14, (p15, (empty-text, (names-itself-thrice, (names-itself, (names-itself-behind, (zero-divisor-unread, tt))))))))))))))))))))

@@ -1,6 +1,6 @@
 -- What `convert` promises, over what its contract allows, in the paper's numbers of an answer.
 use mathlib.Core.Path.{_≡_}
-use mathlib.Core.Bool.{Bool, false}
+use mathlib.Core.Bool.{Bool, true, false}
 use mathlib.Core.List.{List, _++_}
 use mathlib.Core.Logic.{_↔_}
 use Prim.Native.Nat.{ℕ, _+_, _-_, _≤_, _<_}
@@ -14,6 +14,7 @@ use Rattle.numbers.specs.declared.Converted.{Converted}
 use Rattle.reader.specs.Reading.{no-limit, readNumber, readPlace, readValue}
 use Rattle.reader.specs.declared.Reading.{Reading}
 use Rattle.promises.specs.Leads.{lead}
+use Rattle.promises.specs.Accepted.{isConverted}
 use Rattle.promises.specs.Allowed.{Converts, Reads}
 
 -- one answer and one content of the buffer
@@ -21,6 +22,11 @@ abbrev pub OneAnswer : Type 0
 OneAnswer =
     (call value : ℕ) (buf after after′ : List ℕ) (r r′ : Converted)
     → Converts call value buf r after → Converts call value buf r′ after′ → (r ≡ r′) × (after ≡ after′)
+
+-- the number is 0 exactly in the case of a string
+abbrev pub Accepts : Type 0
+Accepts =
+    (call value : ℕ) (buf after : List ℕ) (r : Converted) → Converts call value buf r after → (convertedAnswer r .number ≡ 0) ↔ (isConverted r ≡ true)
 
 -- the room that a form's string of a value takes
 abbrev pub needed : Form → ℕ → ℕ

@@ -1,20 +1,26 @@
 -- What `evaluate` promises, over what its contract allows, in the paper's numbers of an answer. Demand 3 is stated over the trace of the
 -- paper's own evaluation.
 use mathlib.Core.Path.{_≡_}
+use mathlib.Core.Bool.{true}
 use mathlib.Core.List.{List, List·Memᴰ}
 use mathlib.Core.Logic.{_↔_}
 use Prim.Native.Nat.{ℕ, _≤_, _<_}
 use Rattle.paper.specs.Answers.{in-text, in-table}
 use Rattle.paper.specs.Refusals.{allowance-spent, over-length}
-use Rattle.paper.specs.Traces.{Trace, run, runNumber, runPlace, lookUps, allowed}
+use Rattle.paper.specs.Traces.{Trace, run, runNumber, runPlace, Succeeds, lookUps, allowed}
 use Rattle.variables.specs.Judgements.{Judged, good, long-text, bad-table, judgement}
 use Rattle.expressions.specs.Answers.{readingOf, valueIn, evaluatedNumber, evaluatedCounted, evaluatedPlace, evaluatedPattern, evaluateNumbers}
 use Rattle.expressions.specs.declared.Evaluated.{Evaluated}
+use Rattle.promises.specs.Accepted.{isEvaluated}
 use Rattle.promises.specs.Allowed.{Evaluates}
 
 -- one answer
 abbrev pub OneAnswer : Type 0
 OneAnswer = (text table : List ℕ) (allowance : ℕ) (r r′ : Evaluated) → Evaluates text table allowance r → Evaluates text table allowance r′ → r ≡ r′
+
+-- the number is 0 exactly in the case of a value
+abbrev pub Accepts : Type 0
+Accepts = (text table : List ℕ) (allowance : ℕ) (r : Evaluated) → Evaluates text table allowance r → (evaluatedNumber r ≡ 0) ↔ (isEvaluated r ≡ true)
 
 -- Demand 1: a value, or one of the listed refusals. Nothing is lent to be written to
 abbrev pub Refusals : Type 0
@@ -42,6 +48,13 @@ abbrev pub ByReading : Type 0
 ByReading =
     (text table : List ℕ) (allowance : ℕ) (r : Evaluated) → Evaluates text table allowance r
     → JudgedAs (judgement text table) (readingOf text table) allowance r
+
+-- an expression is accepted exactly when it and its table are good, and the reading succeeds within its allowance
+abbrev pub Accepted : Type 0
+Accepted =
+    (text table : List ℕ) (allowance : ℕ) (r : Evaluated) → Evaluates text table allowance r
+    → (evaluatedNumber r ≡ 0)
+    ↔ ((judgement text table ≡ good) × (lookUps (readingOf text table) ≤ allowed allowance) × Succeeds (readingOf text table))
 
 -- Demand 3: an answer other than Allowance spent stays the same under every larger allowance
 abbrev pub Larger : Type 0

@@ -28,7 +28,7 @@ pub data Row : Type 0 where
   reads : (text : String) (value place : ℕ) → Row
   -- a text, without options: the refusal number and its place
   refuses : (text : String) (number place : ℕ) → Row
-  -- a text, a table, an allowance and a room, no flags: the bytes given, and the place of the text's end
+  -- a text, a table, an allowance and a room, no flags: the bytes given, the place of the text's end, and the room left
   translates : (text : String) (table : List ℕ) (allowance room : ℕ) (given : List ℕ) (end free : ℕ) → Row
   -- a text, a table, an allowance and a room, no flags: the refusal number, and its place in the text
   stops : (text : String) (table : List ℕ) (allowance room number place : ℕ) → Row
@@ -106,6 +106,8 @@ examples =
     -- a macro that names itself: `<a>` for a, with 3 look-ups and with 1,024
     ∷ stops "<a>" selfNaming 3 1 allowance-spent 0
     ∷ stops "<a>" selfNaming 1024 1 too-deep 0
+    -- the same behind two bytes: the place is that of the outermost "<"
+    ∷ stops "xy<a>" selfNaming 3 9 allowance-spent 2
     -- a zero divisor before a bracket that is missing
     ∷ fails "1/0+(" [] 0 bad-expression 5
     ∷ []

@@ -1,4 +1,5 @@
 -- What the library promises, over what the contracts allow.
+pub mod Accepted
 pub mod Allowed
 pub mod Leads
 pub mod Ties

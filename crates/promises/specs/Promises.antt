@@ -10,9 +10,12 @@ use Rattle.promises.specs.Determined.{Determined}
 
 pub record Promises : Type 0 where
   pub worked-examples : All examples
+  -- demand 1: every operation takes any input
+  pub any-input : Ties.Any
   -- `convert`
   pub convert-tied : Ties.Convert
   pub convert-one-answer : Conversions.OneAnswer
+  pub convert-accepts : Conversions.Accepts
   pub convert-refusals : Conversions.Refusals
   pub convert-exact : Conversions.Exact
   pub convert-offset-and-free : Conversions.OffsetAndFree
@@ -23,24 +26,33 @@ pub record Promises : Type 0 where
   -- `read_unsigned`
   pub read-tied : Ties.ReadUnsigned
   pub read-one-answer : Readings.OneAnswer
+  pub read-accepts : Readings.Accepts
   pub read-refusals : Readings.Refusals
   -- `check_table` and `look_up`
   pub check-tied : Ties.CheckTable
   pub check-one-answer : Lookups.OneCheck
+  pub check-accepts : Lookups.CheckAccepts
   pub check-refusals : Lookups.CheckRefusals
-  pub check-records : Lookups.Records
+  pub check-over-length : Lookups.OverLength
+  pub check-records : Lookups.Good
   pub look-up-tied : Ties.LookUp
   pub look-up-one-answer : Lookups.OneFound
+  pub look-up-accepts : Lookups.LookUpAccepts
   pub look-up-refusals : Lookups.LookUpRefusals
+  pub look-up-finds : Lookups.Finds
+  pub look-up-misses : Lookups.Misses
   pub look-up-inside : Lookups.Inside
   -- `translate`
   pub translate-tied : Ties.Translate
   pub translate-one-answer : Translations.OneAnswer
+  pub translate-accepts : Translations.Accepts
   pub translate-refusals : Translations.Refusals
   pub translate-kept : Translations.Kept
   pub translate-refused : Translations.Refused
   pub translate-bytes : Translations.Bytes
   pub translate-by-reading : Translations.ByReading
+  pub translate-accepted : Translations.Accepted
+  pub translate-over-length : Translations.OverLength
   pub translate-larger : Translations.Larger
   pub translate-no-room : Translations.NoRoom
   pub translate-need : Translations.Need
@@ -49,9 +61,11 @@ pub record Promises : Type 0 where
   -- `evaluate`
   pub evaluate-tied : Ties.Evaluate
   pub evaluate-one-answer : Evaluations.OneAnswer
+  pub evaluate-accepts : Evaluations.Accepts
   pub evaluate-refusals : Evaluations.Refusals
   pub evaluate-valued : Evaluations.Valued
   pub evaluate-by-reading : Evaluations.ByReading
+  pub evaluate-accepted : Evaluations.Accepted
   pub evaluate-larger : Evaluations.Larger
   pub evaluate-spent : Evaluations.Spent
   -- the other public functions

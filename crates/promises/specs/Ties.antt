@@ -1,4 +1,5 @@
--- That the promises are made of the contracts themselves: whatever a caller learns of a call is what `Allowed` has.
+-- That the promises are made of the contracts themselves: whatever a caller learns of a call is what `Allowed` has, and a call asks nothing of
+-- its arguments, so that every input is taken.
 use mathlib.Core.Bool.{Bool}
 use mathlib.Core.List.{List}
 use Prim.Native.Nat.{ℕ}
@@ -47,3 +48,13 @@ abbrev pub Evaluate : Type 0
 Evaluate =
     (κs : Lfts 2) (text table : RefT (List ℕ)) (allowance : ℕ) (r : Evaluated)
     → evaluate.Learnt κs (text, (table, (allowance, tt))) r (text, (table, (allowance, tt))) → Evaluates (now text) (now table) allowance r
+
+-- nothing is asked of any argument
+pub record Any : Type 0 where
+  pub convert : (κs : Lfts 1) (call value : ℕ) (buf : RefT (List ℕ)) → convert.Asked κs (call, (value, (buf, tt)))
+  pub read-unsigned : (κs : Lfts 1) (text : RefT (List ℕ)) (whole : Bool) (limit : ℕ) → read-unsigned.Asked κs (text, (whole, (limit, tt)))
+  pub check-table : (κs : Lfts 1) (table : RefT (List ℕ)) → check-table.Asked κs (table, tt)
+  pub look-up : (κs : Lfts 2) (table name : RefT (List ℕ)) → look-up.Asked κs (table, (name, tt))
+  pub translate : (κs : Lfts 3) (text table : RefT (List ℕ)) (flags : Flags) (allowance : ℕ) (out : RefT (List ℕ))
+      → translate.Asked κs (text, (table, (flags, (allowance, (out, tt)))))
+  pub evaluate : (κs : Lfts 2) (text table : RefT (List ℕ)) (allowance : ℕ) → evaluate.Asked κs (text, (table, (allowance, tt)))

@@ -1,16 +1,18 @@
 -- What `translate` promises, over what its contract allows, in the paper's numbers of an answer. Demand 3 is stated over the trace of the
 -- paper's own reading.
 use mathlib.Core.Path.{_≡_}
+use mathlib.Core.Bool.{true}
 use mathlib.Core.List.{List, _++_, List·Memᴰ}
 use mathlib.Core.Logic.{_↔_}
 use Prim.Native.Nat.{ℕ, _+_, _≤_, _<_}
 use lib.ListN.{length, drop}
 use Rattle.paper.specs.Answers.{in-text, in-table, Answer, refusal, GrownWhole}
-use Rattle.paper.specs.Refusals.{no-room, allowance-spent, over-length}
+use Rattle.paper.specs.Refusals.{no-room, allowance-spent, over-length, longest}
 use Rattle.paper.specs.Traces.{Trace, bytes, answer, Succeeds, lookUps, allowed}
 use Rattle.variables.specs.Judgements.{Judged, good, long-text, bad-table, judgement}
 use Rattle.gs.specs.Translations.{readingOf, translatedAnswer, translateNumbers}
 use Rattle.gs.specs.declared.Translated.{Translated}
+use Rattle.promises.specs.Accepted.{isTranslated}
 use Rattle.promises.specs.Allowed.{Translates}
 
 -- one answer and one content of the buffer
@@ -18,6 +20,12 @@ abbrev pub OneAnswer : Type 0
 OneAnswer =
     (text table : List ℕ) (flags allowance : ℕ) (out after after′ : List ℕ) (r r′ : Translated)
     → Translates text table flags allowance out r after → Translates text table flags allowance out r′ after′ → (r ≡ r′) × (after ≡ after′)
+
+-- the number is 0 exactly in the case of a translation
+abbrev pub Accepts : Type 0
+Accepts =
+    (text table : List ℕ) (flags allowance : ℕ) (out after : List ℕ) (r : Translated)
+    → Translates text table flags allowance out r after → (translatedAnswer r .number ≡ 0) ↔ (isTranslated r ≡ true)
 
 -- Demand 1: accepted, or one of the listed refusals
 abbrev pub Refusals : Type 0
@@ -58,6 +66,21 @@ ByReading =
     (text table : List ℕ) (flags allowance : ℕ) (out after : List ℕ) (r : Translated) → Translates text table flags allowance out r after
     → translatedAnswer r ≡ judgedAnswer (judgement text table) (readingOf text table flags) allowance (length out)
 
+-- a text is accepted exactly when it and its table are good, the reading succeeds within its allowance, and what it needs has room
+abbrev pub Accepted : Type 0
+Accepted =
+    (text table : List ℕ) (flags allowance : ℕ) (out after : List ℕ) (r : Translated) → Translates text table flags allowance out r after
+    → let reading = readingOf text table flags in
+    (translatedAnswer r .number ≡ 0)
+    ↔ ((judgement text table ≡ good) × (lookUps reading ≤ allowed allowance) × Succeeds reading × (length (bytes reading) ≤ length out))
+
+-- 18 exactly where the text is too long, counted in the text, or else the table, counted in the table
+abbrev pub OverLength : Type 0
+OverLength =
+    (text table : List ℕ) (flags allowance : ℕ) (out after : List ℕ) (r : Translated) → Translates text table flags allowance out r after
+    → (((translatedAnswer r .number ≡ over-length) × (translatedAnswer r .counted ≡ in-text)) ↔ (longest < length text))
+    × (((translatedAnswer r .number ≡ over-length) × (translatedAnswer r .counted ≡ in-table)) ↔ ((length text ≤ longest) × (longest < length table)))
+
 -- Demand 3: an answer other than No room or Allowance spent stays the same under every larger room and allowance: the same number, place,
 -- what it is counted in, need and bytes, its free up by exactly the room added
 abbrev pub Larger : Type 0
@@ -79,8 +102,8 @@ NoRoom =
 -- its need is the number of the bytes that the reading gives, and does not change with the allowance
 abbrev pub Need : Type 0
 Need =
-    (text table : List ℕ) (flags allowance allowance′ : ℕ) (out after after′ : List ℕ) (r r′ : Translated) → allowance ≤ allowance′
-    → Translates text table flags allowance out r after → Translates text table flags allowance′ out r′ after′
+    (text table : List ℕ) (flags allowance allowance′ : ℕ) (out after out′ after′ : List ℕ) (r r′ : Translated) → allowance ≤ allowance′
+    → length out′ ≡ length out → Translates text table flags allowance out r after → Translates text table flags allowance′ out′ r′ after′
     → translatedAnswer r .number ≡ no-room
     → (translatedAnswer r .need ≡ length (bytes (readingOf text table flags))) × (translatedAnswer r′ ≡ translatedAnswer r)
 

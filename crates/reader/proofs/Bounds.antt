@@ -2,7 +2,7 @@
 use mathlib.Core.Bool.{Bool, _||_, and-eq-true-iff}
 use mathlib.Core.List.{List, List·Memᴰ, List·Memᴰ·head as head, List·Memᴰ·tail as tail}
 use mathlib.Core.Path.{refl}
-use Prim.Native.Nat.{ℕ, _+_, _≤_}
+use Prim.Native.Nat.{ℕ, _+_, _≤_, _<_}
 use native.Mathlib.Omega.{arith}
 use borrow.Author.Tests.{ltb-false, eqb-true}
 use lib.Dec.{ltb, eqb}
@@ -10,7 +10,8 @@ use lib.ListN.{length, getD, drop}
 use Rattle.paper.specs.Refusals.{longest}
 use Rattle.paper.specs.Bytes.{spaces}
 use Rattle.reader.specs.declared.Reading.{Reading}
-use Rattle.reader.specs.Reading.{readNumber, readPlace, readValue, numbers, run, goesOn, judged, based, inBase, marked, numbered, reading}
+use Rattle.reader.specs.declared.Reading.the-variants.{Value, Refused}
+use Rattle.reader.specs.Reading.{readNumber, readPlace, readValue, numbers, run, worth, goesOn, judged, based, inBase, marked, numbered, reading}
 use Rattle.paper.proofs.Choice.{either}
 use Rattle.paper.proofs.Spaces.{inside, spaces-within}
 use Rattle.reader.proofs.Laws.{run-within}
@@ -62,3 +63,32 @@ unfolding reading
 reading-bounded text whole limit =
     either Bounded (ltb longest (length text)) (λ _. record { number = omega arith; place = omega arith; value = omega arith; listed = tail (head refl) })
     (λ short. numbered-bounded text whole limit (spaces text) (ltb-false longest (length text) short) (spaces-within text))
+
+-- a refusal has a number
+abbrev pub Numbered : Reading → Type 0
+Numbered (Value n) = Unit {0}
+Numbered (Refused number at) = 0 < number
+
+module _ (text : List ℕ) (whole : Bool) (limit start : ℕ) where
+  judged-numbered : (first end value : ℕ) → Numbered (judged text whole limit start first end value)
+  unfolding judged
+  judged-numbered first end value =
+      either Numbered (eqb end first) (λ _. omega arith)
+      (λ _. either Numbered (ltb 4294967295 value) (λ _. omega arith)
+      (λ _. either Numbered (goesOn text whole end) (λ _. omega arith)
+      (λ _. either Numbered (ltb limit value) (λ _. omega arith) (λ _. tt))))
+
+  numbered-numbered : Numbered (numbered text whole limit start)
+  unfolding numbered inBase
+  numbered-numbered =
+      let lead = run 10 (drop start text) in
+      let mark = start + length lead in
+      either Numbered (eqb (getD text start 0) 38) (λ _. judged-numbered _ _ _)
+      (λ _. either Numbered (marked text start mark)
+      (λ _. either Numbered (ltb (worth 10 0 lead) 2 || ltb 36 (worth 10 0 lead)) (λ _. omega arith) (λ _. judged-numbered _ _ _))
+      (λ _. judged-numbered _ _ _))
+
+pub reading-numbered : (text : List ℕ) (whole : Bool) (limit : ℕ) → Numbered (reading text whole limit)
+unfolding reading
+reading-numbered text whole limit =
+    either Numbered (ltb longest (length text)) (λ _. omega arith) (λ _. numbered-numbered text whole limit (spaces text))

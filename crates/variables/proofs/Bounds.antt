@@ -1,10 +1,11 @@
 -- Every answer has a number that is listed, a place up to 65,535, up to 256 records, and a kind up to 2.
 use mathlib.Core.Bool.{false}
 use mathlib.Core.List.{List, [], _∷_, List·Memᴰ, Memᴰ·append-left, List·Memᴰ·head as head, List·Memᴰ·tail as tail}
+use mathlib.Core.Logic.{_↔_}
 use mathlib.Core.Path.{_≡_, refl, subst}
 use Prim.Native.Nat.{ℕ, zero, suc, _+_, _≤_, _<_}
 use native.Mathlib.Omega.{arith}
-use borrow.Author.Tests.{leb-false, ltb-false}
+use borrow.Author.Tests.{leb-false, ltb-true, ltb-false}
 use lib.Dec.{ltb, leb}
 use lib.ListN.{length}
 use Rattle.paper.specs.Refusals.{unknown-name, allowance-spent, bad-table, over-length, longest}
@@ -61,6 +62,23 @@ checked-bounded table =
       refused = λ n at q. let same : over-length ≡ n = cc in omega arith;
     })
     (λ e. scanned-bounded table (ltb-false longest (length table) e) most 0 0 (omega arith))
+
+-- a scan never finds that a table is too long
+scanned-short : (table : List ℕ) (left count place : ℕ) → checkNumber (scanned left count table place) ≡ over-length → ⊥
+unfolding scanned
+scanned-short table zero count place =
+    either (λ r. checkNumber r ≡ over-length → ⊥) (leb (length table) place) (λ _ e. omega arith) (λ _ e. omega arith)
+scanned-short table (suc left) count place =
+    either (λ r. checkNumber r ≡ over-length → ⊥) (leb (length table) place) (λ _ e. omega arith)
+    (λ _. either (λ r. checkNumber r ≡ over-length → ⊥) (sound table place) (λ _. scanned-short table left (suc count) (nextPlace table place)) (λ _ e. omega arith))
+
+-- 18 comes exactly where a table is too long
+pub over-length-exactly : (table : List ℕ) → (checkNumber (checked table) ≡ over-length) ↔ (longest < length table)
+unfolding checked
+over-length-exactly table =
+    either (λ r. (checkNumber r ≡ over-length) ↔ (longest < length table)) (ltb longest (length table))
+    (λ e. (λ _. ltb-true longest (length table) e, λ _. refl))
+    (λ e. (λ h. absurd (scanned-short table most 0 0 h), λ h. absurd (omega (arith, h, ltb-false longest (length table) e))))
 
 pub record FoundBounded (r : Found) : Type 0 where
   pub number : foundNumber r ≤ 255

@@ -51,7 +51,7 @@ same-sought [] a b e = refl
 same-sought (x ∷ es) a b e = rw (alike (x .name) a b e, same-sought es a b e)
 
 -- a name that no record has means nothing
-unmet :
+pub unmet :
     (es : List Entry) (name : List ℕ) → ((e : Entry) → List·Memᴰ e es → sameName (e .name) name ≡ false) →
     sought es name ≡ absent
 unfolding sought
@@ -86,6 +86,14 @@ module _ {n : ℕ} {table : List ℕ} (l : Laid table n) where
   pub unique :
       {e f : Entry} → List·Memᴰ e (recordsOf table) → List·Memᴰ f (recordsOf table) → sameName (e .name) (f .name) ≡ true → e ≡ f
   unique {e} {f} a b same = unpresent (sym (own a) ∙ same-sought (recordsOf table) (e .name) (f .name) same ∙ own b)
+
+  -- a name that means nothing is no record's
+  pub missed : (name : List ℕ) → soughtIn table name ≡ absent → (e : Entry) → List·Memᴰ e (recordsOf table) → sameName (e .name) name ≡ false
+  missed name gone e m = go (sameName (e .name) name) refl
+    where
+      go : (b : Bool) → sameName (e .name) name ≡ b → b ≡ false
+      go true q = absurd (not-absent (sym (own m) ∙ same-sought (recordsOf table) (e .name) name q ∙ gone))
+      go false q = refl
 
   -- a name of no byte, or of more than 32
   pub out-of-length : (name : List ℕ) → (1 ≤ length name → 32 < length name) → soughtIn table name ≡ absent
