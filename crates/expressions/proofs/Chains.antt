@@ -10,7 +10,7 @@ use Rattle.paper.specs.Traces.{Run, finished, refused, run, ended}
 use Rattle.paper.proofs.Choice.{either}
 use Rattle.variables.specs.Names.{Meaning}
 use Rattle.arithmetic.specs.Operators.{divides}
-use Rattle.expressions.specs.Tokens.{tokenAt}
+use Rattle.tokens.specs.Tokens.{tokenAt}
 use Rattle.expressions.specs.Trees.{Tree, Parsed, tree, faulty, binds, none, linkBy, linkAt, joined, extended, operatorsFrom, levelAt, operandAt}
 use Rattle.expressions.specs.Evaluations.{treeValue, steps}
 use Rattle.expressions.specs.inner.Steps.{partBy, partOf, accountOf, appliedPart, joinedPart, linkBehind}
@@ -19,7 +19,7 @@ use Rattle.expressions.specs.declared.parts.Account.{Account}
 use Rattle.expressions.specs.declared.parts.Account.the-variants.{Open, Refused as RefusedBefore}
 use Rattle.expressions.specs.declared.parts.Part.{Part}
 use Rattle.expressions.specs.declared.parts.Part.the-variants.{Value, Refused, Faulty}
-use Rattle.expressions.proofs.Places.{past-end}
+use Rattle.tokens.proofs.Places.{past-end}
 use Rattle.expressions.proofs.Onward.{Onward, binds-onward, level-onward, operand-onward}
 use Rattle.expressions.proofs.Joins.{part-link, part-joined}
 

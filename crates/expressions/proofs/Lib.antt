@@ -1,6 +1,4 @@
 -- Laws that several proofs cite.
-pub mod Laws
-pub mod Places
 pub mod Onward
 pub mod Joins
 pub mod Chains

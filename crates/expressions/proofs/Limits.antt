@@ -1,14 +1,12 @@
 -- How far the numbers of an evaluation go: every place lies in the text, and every refusal is a listed one.
 use mathlib.Core.Bool.{cond, true, false, _&&_}
 use mathlib.Core.List.{List, List·Memᴰ, Memᴰ·append-left, List·Memᴰ·head as head}
-use mathlib.Core.Path.{_≡_, refl, subst}
-use Prim.Native.Nat.{ℕ, zero, suc, _+_, _≤_}
+use mathlib.Core.Path.{_≡_, refl, sym, subst}
+use Prim.Native.Nat.{ℕ, zero, suc, _≤_}
 use native.Mathlib.Omega.{arith}
 use lib.Dec.{eqb}
-use lib.ListN.{length, getD, drop, length-drop}
-use Rattle.paper.specs.Bytes.{spaces, ends}
+use lib.ListN.{length}
 use Rattle.paper.specs.Refusals.{no-digit, bad-base, too-big, unknown-name, too-deep, allowance-spent, bad-expression, zero-divisor, not-an-integer, over-length, longest}
-use Rattle.paper.specs.Texts.{bytes}
 use Rattle.paper.specs.Traces.{faultNumber, Trace, Run, finished, refused, run, runPlace, ended as end-at, allowed}
 use Rattle.paper.specs.declared.faults.Fault.{Fault}
 use Rattle.paper.specs.declared.faults.Fault.the-variants.{TooDeep, BadExpression}
@@ -16,101 +14,38 @@ use Rattle.paper.proofs.Choice.{either}
 use Rattle.paper.proofs.Placed.{Placed, ended-at, faults-at, asks-on, spends-at, run-placed}
 use Rattle.paper.proofs.Listed.{member, Listed, ended-listed, faults-listed, asks-listed, spends-listed, RunListed, run-listed}
 use Rattle.paper.proofs.DemandThree.{refused-number}
-use Rattle.paper.proofs.Spaces.{skipped-within}
-use Rattle.reader.specs.Reading.{no-limit, reading}
-use Rattle.reader.specs.declared.Reading.{Reading}
-use Rattle.reader.specs.declared.Reading.the-variants.{Value, Refused}
-use Rattle.variables.specs.Records.{sameBytes}
 use Rattle.variables.specs.Judgements.{Judged, good, long-text, bad-table, judgement}
 use Rattle.variables.specs.Names.{Meaning, unknown, string-of, integer-of, macro-of, namesOf}
 use Rattle.variables.proofs.Judging as Judging
 use Rattle.variables.proofs.Bounds.{Bounded as Checks, checked-bounded}
 use Rattle.arithmetic.specs.Operators.{levelOf, loosest, standsAlone, divides}
-use Rattle.expressions.specs.Tokens.{Lexeme, letter, wordToken, faultOf, numberBy, single, fromLess, fromGreater, symbolAt, numeral, startingAt, tokenAt}
+use Rattle.tokens.specs.Tokens.{faultOf, tokenAt}
 use Rattle.expressions.specs.Trees.{Tree, constant, variable, unary, binary, Parsed, tree, faulty, Link, binds, none, linkBy, linkAt, joined, covered, extended, closedBy, endedBy, Deeper, operatorsFrom, levelAt, closedTree, operandBy, deepest, oneDeeper, startedIn, operandAt, endedTree, wholeTree}
 use Rattle.expressions.specs.Evaluations.{nameSteps, divided, treeValue, steps, evaluation}
 use Rattle.expressions.specs.Answers.{readingOf, valueIn, evaluatedBy, evaluatedOver, evaluated, evaluatedNumber, evaluatedPlace, metNumbers, evaluateNumbers}
 use Rattle.expressions.specs.declared.Evaluated.{Evaluated}
 use Rattle.arithmetic.specs.declared.operators.Operator.{Operator}
-use Rattle.expressions.specs.declared.tokens.Token.{Token}
-use Rattle.expressions.specs.declared.tokens.Token.the-variants.{End, Operator as Operates, Number, FaultyNumber, Name, Open, Close, Strange}
-use Rattle.expressions.proofs.Places.{Takes, stands, Reads, reading-reads}
+use Rattle.tokens.specs.declared.Token.{Token}
+use Rattle.tokens.specs.declared.Token.the-variants.{End, Operator as Operates, Number, FaultyNumber, Name, Open, Close, Strange}
+use Rattle.tokens.proofs.Places.{Takes, stands}
+use Rattle.tokens.proofs.Limits.{FaultyIn, token-in}
 use Rattle.expressions.proofs.Onward.{binds-onward}
 
 -- a fault that an evaluation can be refused for
 abbrev Mentioned : Fault → Type 0
 Mentioned fault = List·Memᴰ (faultNumber fault) evaluateNumbers
 
--- a number that the reader refuses is refused inside a text of so many bytes
-abbrev FaultyIn : ℕ → Token → Type 0
-FaultyIn size End = Unit {0}
-FaultyIn size (Operates operator) = Unit {0}
-FaultyIn size (Number value) = Unit {0}
-FaultyIn size (FaultyNumber fault place) = Mentioned fault × (place ≤ size)
-FaultyIn size Name = Unit {0}
-FaultyIn size Open = Unit {0}
-FaultyIn size Close = Unit {0}
-FaultyIn size Strange = Unit {0}
+-- a number that the reader refuses is refused with one of three
+fault-in : (fault : Fault) → ((number : ℕ) × (fault ≡ faultOf number)) → Mentioned fault
+unfolding faultOf
+fault-in fault (number, e) =
+    subst Mentioned (sym e)
+    (either Mentioned (eqb number no-digit) (λ _. member no-digit evaluateNumbers refl)
+    (λ _. either Mentioned (eqb number bad-base) (λ _. member bad-base evaluateNumbers refl) (λ _. member too-big evaluateNumbers refl)))
 
 module _ (text : List ℕ) where
   abbrev size : ℕ
   size = length text
-
-  -- a token starts inside the text
-  abbrev InText : Lexeme → Type 0
-  InText l = (l .place ≤ size) × FaultyIn size (l .token)
-
-  word-in : (word : List ℕ) → FaultyIn size (wordToken word)
-  unfolding wordToken
-  word-in word =
-      either (FaultyIn size) (sameBytes (bytes "MOD") word) (λ _. tt)
-      (λ _. either (FaultyIn size) (sameBytes (bytes "AND") word) (λ _. tt)
-      (λ _. either (FaultyIn size) (sameBytes (bytes "OR") word) (λ _. tt)
-      (λ _. either (FaultyIn size) (sameBytes (bytes "EOR") word) (λ _. tt)
-      (λ _. either (FaultyIn size) (sameBytes (bytes "NOT") word) (λ _. tt) (λ _. tt)))))
-
-  fault-in : (number : ℕ) → Mentioned (faultOf number)
-  unfolding faultOf
-  fault-in number =
-      either Mentioned (eqb number no-digit) (λ _. member no-digit evaluateNumbers refl)
-      (λ _. either Mentioned (eqb number bad-base) (λ _. member bad-base evaluateNumbers refl) (λ _. member too-big evaluateNumbers refl))
-
-  number-in : (at : ℕ) (r : Reading) → at ≤ size → Reads (length (drop at text)) r → InText (numberBy r at)
-  number-in at (Value n) h r = (h, tt)
-  number-in at (Refused number place) h r = (h, (fault-in number, omega (arith, length-drop at text)))
-
-  single-in : (c : ℕ) → FaultyIn size (single c)
-  unfolding single
-  single-in c =
-      either (FaultyIn size) (eqb c 40) (λ _. tt)
-      (λ _. either (FaultyIn size) (eqb c 41) (λ _. tt)
-      (λ _. either (FaultyIn size) (eqb c 42) (λ _. tt)
-      (λ _. either (FaultyIn size) (eqb c 43) (λ _. tt)
-      (λ _. either (FaultyIn size) (eqb c 45) (λ _. tt)
-      (λ _. either (FaultyIn size) (eqb c 47) (λ _. tt) (λ _. either (FaultyIn size) (eqb c 61) (λ _. tt) (λ _. tt)))))))
-
-  symbol-in : (at : ℕ) → at ≤ size → InText (symbolAt text at)
-  unfolding symbolAt fromLess fromGreater
-  symbol-in at h =
-      let c = getD text at 0 in
-      let d = getD text (at + 1) 0 in
-      either InText (eqb c 60)
-      (λ _. either InText (eqb d 62) (λ _. (h, tt)) (λ _. either InText (eqb d 61) (λ _. (h, tt)) (λ _. either InText (eqb d 60) (λ _. (h, tt)) (λ _. (h, tt)))))
-      (λ _. either InText (eqb c 62)
-      (λ _. either InText (eqb d 61) (λ _. (h, tt))
-      (λ _. either InText (eqb d 62) (λ _. either InText (eqb (getD text (at + 2) 0) 62) (λ _. (h, tt)) (λ _. (h, tt))) (λ _. (h, tt))))
-      (λ _. (h, single-in c)))
-
-  starting-in : (at : ℕ) → at ≤ size → InText (startingAt text at)
-  unfolding startingAt
-  starting-in at h =
-      let c = getD text at 0 in
-      either InText (ends c) (λ _. (h, tt))
-      (λ _. either InText (letter c) (λ _. (h, word-in _))
-      (λ _. either InText (numeral c) (λ _. number-in at (reading (drop at text) false no-limit) h (reading-reads (drop at text) false no-limit)) (λ _. symbol-in at h)))
-
-  token-in : (at : ℕ) → at ≤ size → InText (tokenAt text at)
-  token-in at h = starting-in (at + spaces (drop at text)) (skipped-within text at h)
 
   -- the places of a tree
   abbrev Inside : Tree → Type 0
@@ -166,7 +101,7 @@ module _ (text : List ℕ) where
             let k = tokenAt text here in
             let p = binds-at level (k .place) (k .next) place next operator (k .token) e in
             rest (joined operator place lhs (below next))
-            (joined-in operator place lhs (below next) (omega (arith, p, token-in here h .0)) l (tighter next (binds-onward text level here place next operator e .1)))
+            (joined-in operator place lhs (below next) (omega (arith, p, token-in text here h .0)) l (tighter next (binds-onward text level here place next operator e .1)))
 
   level-in : (level : ℕ) (operand : ℕ → Parsed) → ((at : ℕ) → at ≤ size → Stays (operand at)) → (at : ℕ) → at ≤ size → Stays (levelAt text level operand at)
   level-in zero operand o at h = o at h
@@ -187,7 +122,7 @@ module _ (text : List ℕ) where
   closed-in (faulty fault place) s = s
   closed-in (tree inner here) (tree-in i h) =
       let k = tokenAt text here in
-      closed-by inner (k .place) (k .next) (k .token) i (token-in here h .0) (λ t. stands text here t .within)
+      closed-by inner (k .place) (k .next) (k .token) i (token-in text here h .0) (λ t. stands text here t .within)
 
   ended-by : (inner : Tree) (place : ℕ) (token : Token) → Inside inner → place ≤ size → Stays (endedBy inner token place)
   ended-by inner place End i a = tree-in i a
@@ -201,7 +136,7 @@ module _ (text : List ℕ) where
 
   ended-in : (parsed : Parsed) → Stays parsed → Stays (endedTree text parsed)
   ended-in (faulty fault place) s = s
-  ended-in (tree inner here) (tree-in i h) = ended-by inner (tokenAt text here .place) (tokenAt text here .token) i (token-in here h .0)
+  ended-in (tree inner here) (tree-in i h) = ended-by inner (tokenAt text here .place) (tokenAt text here .token) i (token-in text here h .0)
 
   record Covers (deeper : Deeper) : Type 0 where
     under : (operator : Operator) (place next : ℕ) → place ≤ size → next ≤ size → Stays (deeper .under operator place next)
@@ -210,7 +145,7 @@ module _ (text : List ℕ) where
   operand-by : (deeper : Deeper) → Covers deeper → (place next : ℕ) (token : Token) → place ≤ size → FaultyIn size token → (Takes token → next ≤ size)
       → Stays (operandBy text deeper token place next)
   operand-by deeper d place next (Number value) a b n = tree-in tt (n tt)
-  operand-by deeper d place next (FaultyNumber fault digit) a b n = faulty-in (b .0) (b .1)
+  operand-by deeper d place next (FaultyNumber fault digit) a b n = faulty-in (fault-in fault (b .0)) (b .1)
   operand-by deeper d place next Name a b n = tree-in a (n tt)
   operand-by deeper d place next (Operates operator) a b n =
       either Stays (standsAlone operator) (λ _. d .under operator place next a (n tt)) (λ _. misplaced a)
@@ -222,7 +157,7 @@ module _ (text : List ℕ) where
   started-in : (deeper : Deeper) → Covers deeper → (at : ℕ) → at ≤ size → Stays (startedIn text deeper at)
   started-in deeper d at h =
       let k = tokenAt text at in
-      operand-by deeper d (k .place) (k .next) (k .token) (token-in at h .0) (token-in at h .1) (λ t. stands text at t .within)
+      operand-by deeper d (k .place) (k .next) (k .token) (token-in text at h .0) (token-in text at h .1) (λ t. stands text at t .within)
 
   operand-in : (levels at : ℕ) → at ≤ size → Stays (operandAt text levels at)
   unfolding operandAt

@@ -9,12 +9,12 @@ use lib.ListN.{length}
 use Rattle.paper.specs.declared.faults.Fault.{Fault}
 use Rattle.paper.proofs.Choice.{either}
 use Rattle.arithmetic.specs.Operators.{levelOf, loosest, standsAlone}
-use Rattle.expressions.specs.Tokens.{tokenAt}
+use Rattle.tokens.specs.Tokens.{tokenAt}
 use Rattle.expressions.specs.Trees.{Tree, Parsed, tree, faulty, Link, binds, none, linkBy, linkAt, joined, covered, extended, closedBy, Deeper, operatorsFrom, levelAt, closedTree, operandBy, deepest, oneDeeper, startedIn, operandAt}
 use Rattle.arithmetic.specs.declared.operators.Operator.{Operator}
-use Rattle.expressions.specs.declared.tokens.Token.{Token}
-use Rattle.expressions.specs.declared.tokens.Token.the-variants.{End, Operator as Operates, Number, FaultyNumber, Name, Open, Close, Strange}
-use Rattle.expressions.proofs.Places.{Takes, stands}
+use Rattle.tokens.specs.declared.Token.{Token}
+use Rattle.tokens.specs.declared.Token.the-variants.{End, Operator as Operates, Number, FaultyNumber, Name, Open, Close, Strange}
+use Rattle.tokens.proofs.Places.{Takes, stands}
 
 module _ (text : List ℕ) where
   pub record Onward (at : ℕ) (parsed : Parsed) : Type 0 where

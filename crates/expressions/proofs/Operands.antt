@@ -8,17 +8,18 @@ use Rattle.paper.specs.declared.faults.Fault.the-variants.{TooDeep, BadExpressi
 use Rattle.paper.proofs.Choice.{hit, skip}
 use Rattle.variables.specs.Names.{Meaning}
 use Rattle.arithmetic.specs.Operators.{loosest, standsAlone}
-use Rattle.expressions.specs.Tokens.{Lexeme, tokenAt}
+use Rattle.tokens.specs.Tokens.{Lexeme, tokenAt}
 use Rattle.expressions.specs.Trees.{Parsed, faulty, covered, Deeper, levelAt, closedTree, operandBy, deepest, oneDeeper, operandAt}
-use Rattle.expressions.specs.inner.Steps.{lexemeOf, partOf, coveredPart, closedPart}
+use Rattle.tokens.specs.inner.Steps.{lexemeOf}
+use Rattle.expressions.specs.inner.Steps.{partOf, coveredPart, closedPart}
 use Rattle.arithmetic.specs.declared.operators.Operator.{Operator}
-use Rattle.expressions.specs.declared.tokens.Lexed.{Lexed}
-use Rattle.expressions.specs.declared.tokens.Token.{Token}
-use Rattle.expressions.specs.declared.tokens.Token.the-variants.{Operator as Operates, Name, Open}
+use Rattle.tokens.specs.declared.Lexed.{Lexed}
+use Rattle.tokens.specs.declared.Token.{Token}
+use Rattle.tokens.specs.declared.Token.the-variants.{Operator as Operates, Name, Open}
 use Rattle.expressions.specs.declared.parts.Account.{Account}
 use Rattle.expressions.specs.declared.parts.Part.{Part}
 use Rattle.expressions.specs.declared.parts.Part.the-variants.{Faulty}
-use Rattle.expressions.proofs.Places.{Takes, Stands, stands}
+use Rattle.tokens.proofs.Places.{Takes, Stands, stands}
 use Rattle.expressions.proofs.Joins.{part-covered, part-closed}
 
 not-alone : (b : Bool) → not b ≡ true → b ≡ false

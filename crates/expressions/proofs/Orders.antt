@@ -9,7 +9,7 @@ use Rattle.paper.specs.Answers.{in-text, in-table}
 use Rattle.paper.specs.Refusals.{over-length, longest}
 use Rattle.paper.specs.Traces.{Run, finished, refused, run, allowed}
 use Rattle.paper.proofs.DemandThree.{refused-number}
-use Rattle.variables.specs.Judgements.{Judged, good, long-text, bad-table, judged-by, judgement}
+use Rattle.variables.specs.Judgements.{Judged, good, long-text, bad-table, judgedBy, judgement}
 use Rattle.variables.specs.Tables.{checked}
 use Rattle.variables.specs.declared.Checked.{Checked}
 use Rattle.variables.proofs.Judging as Judging
@@ -63,8 +63,8 @@ module _ (text table : List ℕ) (allowance : ℕ) where
   too-long h = sym (by-judgement long-text (Judging.over text table h))
 
   pub over : (d : Checked) → length text ≤ longest → checked table ≡ d
-      → evaluatedOver (judged-by d) ran-so (valueIn text table) ≡ evaluated text table allowance
-  over d h e = sym (by-judgement (judged-by d) (Judging.within text table h ∙ ap judged-by e))
+      → evaluatedOver (judgedBy d) ran-so (valueIn text table) ≡ evaluated text table allowance
+  over d h e = sym (by-judgement (judgedBy d) (Judging.within text table h ∙ ap judgedBy e))
 
   -- every number is a listed one
   pub evaluated-listed : List·Memᴰ (evaluatedNumber (evaluated text table allowance)) evaluateNumbers

@@ -1,5 +1,4 @@
 -- Expressions: tokens, the tree that they make, its evaluation as a trace, the answer.
-pub mod Tokens
 pub mod Trees
 pub mod Evaluations
 pub mod Answers

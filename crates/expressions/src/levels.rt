@@ -11,11 +11,10 @@ ghost use Rattle.paper.specs.declared.faults.Fault.the-variants as Fault;
 use crate::parts;
 use crate::parts::Account;
 use crate::parts::Part;
-use crate::tokens;
-use crate::tokens::Lexed;
-use crate::tokens::Token;
 use arithmetic::operators::Operator;
 use paper::faults::Fault;
+use tokens::Lexed;
+use tokens::Token;
 
 // What stands behind an operand: an operator of the level that asks, with its place and the place behind it, or anything else.
 pub enum Behind {

@@ -7,7 +7,6 @@ ghost use Rattle.expressions.specs.inner.Steps.{answerOf};
 
 mod levels;
 mod parts;
-pub mod tokens;
 
 use paper::LONGEST;
 use paper::OVER_LENGTH;

@@ -7,10 +7,10 @@ ghost use Rattle.filter.specs.Answers.{answerTo, Answered};
 mod lines;
 
 use gs::Translated;
-use gs::flags::Flags;
 use libc::STDERR_FILENO;
 use libc::STDIN_FILENO;
 use libc::STDOUT_FILENO;
+use symbols::flags::Flags;
 
 // How many bytes the text has that was read, and how many its answer.
 pub struct Lengths {

@@ -8,12 +8,12 @@ use lib.ListN.{length, take, drop}
 use Rattle.paper.specs.Traces.{Trace, gives}
 use Rattle.reader.specs.Reading.{reading, no-limit}
 use Rattle.variables.specs.Names.{Meaning}
-use Rattle.gs.specs.Symbols.{symbolAt, firstAt, modeOf}
+use Rattle.symbols.specs.Symbols.{symbolAt, firstAt, modeOf}
 use Rattle.gs.specs.Readings.{Expand, contentGives, symbolGives, symbolsFrom, wholeText}
-use Rattle.gs.specs.declared.symbols.Mode.{Mode}
-use Rattle.gs.specs.declared.symbols.Symbol.{Symbol}
-use Rattle.gs.specs.declared.symbols.Symbol.the-variants.{End, Byte, Reference as Names, Faulty}
-use Rattle.gs.proofs.Places.{Stands, quoteOf, symbol-stands, first-stands}
+use Rattle.symbols.specs.declared.forms.Mode.{Mode}
+use Rattle.symbols.specs.declared.forms.Symbol.{Symbol}
+use Rattle.symbols.specs.declared.forms.Symbol.the-variants.{End, Byte, Reference as Names, Faulty}
+use Rattle.symbols.proofs.Places.{Stands, quoteOf, symbol-stands, first-stands}
 
 module _ (names : List ℕ → Meaning) (expand : Expand) (text : List ℕ) (flags : ℕ) where
   module _ (mode : Mode) where

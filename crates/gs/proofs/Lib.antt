@@ -1,6 +1,4 @@
--- The laws that several proofs cite, where each symbol stands, the pieces of a reading, and what holds of every translation.
-pub mod Laws
-pub mod Places
+-- The pieces of a reading, and what holds of every translation.
 pub mod Fuel
 pub mod Depths
 pub mod Pieces

@@ -19,25 +19,25 @@ use Rattle.reader.specs.declared.Reading.{Reading}
 use Rattle.reader.specs.declared.Reading.the-variants.{Value, Refused}
 use Rattle.numbers.specs.declared.forms.Width.the-variants.{Word}
 use Rattle.numbers.proofs.Bounds.{decimal-short}
-use Rattle.gs.specs.Symbols.{symbolAt, firstAt, modeOf}
+use Rattle.symbols.specs.Symbols.{symbolAt, firstAt, modeOf}
 use Rattle.numbers.specs.Calls.{decimalOf}
 use Rattle.gs.specs.Readings.{givesAll, deepest, Expand, nameGives, contentGives, symbolGives, symbolsFrom, wholeText, expands}
 use Rattle.gs.specs.Translations.{readingOf, translatedBy, translatedOver, translated, translatedAnswer, metNumbers, translateNumbers}
 use Rattle.gs.specs.declared.Translated.{Translated}
-use Rattle.gs.specs.declared.symbols.Mode.{Mode}
-use Rattle.gs.specs.declared.symbols.Symbol.{Symbol}
-use Rattle.gs.specs.declared.symbols.Symbol.the-variants.{End, Byte, Reference as Names, Faulty}
+use Rattle.symbols.specs.declared.forms.Mode.{Mode}
+use Rattle.symbols.specs.declared.forms.Symbol.{Symbol}
+use Rattle.symbols.specs.declared.forms.Symbol.the-variants.{End, Byte, Reference as Names, Faulty}
 use Rattle.variables.specs.Records.{Sought, absent, present, Entry, valueLength, valueStart, valueAt, entryAt}
 use Rattle.variables.specs.Tables.{checked, soughtIn, kindOf}
 use Rattle.variables.specs.Names.{Meaning, unknown, string-of, integer-of, macro-of, valueAs, meant, inReading, namesOf}
-use Rattle.variables.specs.Judgements.{judged-by}
+use Rattle.variables.specs.Judgements.{judgedBy}
 use Rattle.variables.specs.declared.Checked.{Checked}
 use Rattle.variables.specs.declared.Checked.the-variants.{Good, BadTable}
 use Rattle.variables.specs.declared.kinds.Kind.{Kind}
 use Rattle.variables.specs.declared.kinds.Kind.the-variants.{Text, Integer, Macro}
 use Rattle.variables.proofs.Bounds.{Bounded, checked-bounded}
 use Rattle.variables.proofs.Own.{Own, sought-own}
-use Rattle.gs.proofs.Places.{Stands, quoteOf, symbol-stands, first-stands}
+use Rattle.symbols.proofs.Places.{Stands, quoteOf, symbol-stands, first-stands}
 use Rattle.gs.proofs.Meetings.{read-met}
 use Rattle.gs.proofs.Orders.{in-order}
 
@@ -186,7 +186,7 @@ module _ (text table : List ℕ) (flags allowance room : ℕ) where
       either (λ a. Numbered (translatedBy a)) (ltb room (length (bytes reads))) (λ _. member no-room translateNumbers refl) (λ _. member 0 translateNumbers refl)
   listed-by (refused number place) l = either Numbered (eqb number 0) (λ _. member 0 translateNumbers refl) (λ _. l)
 
-  listed-over : (d : Checked) → Bounded d → Numbered (translatedOver (judged-by d) reads allowance room)
+  listed-over : (d : Checked) → Bounded d → Numbered (translatedOver (judgedBy d) reads allowance room)
   listed-over (Good count) b =
       listed-by (run reads (allowed allowance))
       (run-listed translateNumbers (member allowance-spent translateNumbers refl) (read-met (namesOf table) 0 text flags .listed) (allowed allowance))
@@ -229,7 +229,7 @@ module _ (text table : List ℕ) (flags allowance room : ℕ) (bs : (k : ℕ) �
       (λ _. record { number = omega arith; place = omega arith; need = omega arith })
       (λ _. record { number = omega arith; place = omega arith; need = omega arith })
 
-  packable-over : (d : Checked) → Bounded d → length text ≤ longest → Packable (translatedAnswer (translatedOver (judged-by d) t allowance room))
+  packable-over : (d : Checked) → Bounded d → length text ≤ longest → Packable (translatedAnswer (translatedOver (judgedBy d) t allowance room))
   packable-over (Good count) b h = packable-by (run t (allowed allowance)) h refl
   packable-over (BadTable number at) b h = record { number = b .number; place = b .place; need = omega arith }
 

@@ -17,14 +17,14 @@ use Rattle.reader.specs.Reading.{reading, no-limit}
 use Rattle.reader.specs.declared.Reading.{Reading}
 use Rattle.reader.specs.declared.Reading.the-variants.{Value, Refused}
 use Rattle.variables.specs.Names.{Meaning, unknown, string-of, integer-of, macro-of}
-use Rattle.gs.specs.Symbols.{symbolAt, firstAt, modeOf}
+use Rattle.symbols.specs.Symbols.{symbolAt, firstAt, modeOf}
 use Rattle.numbers.specs.Calls.{decimalOf}
 use Rattle.gs.specs.Readings.{givesAll, deepest, Expand, nameGives, contentGives, symbolGives, symbolsFrom, wholeText, expands, readAt}
 use Rattle.gs.specs.Translations.{translateNumbers}
-use Rattle.gs.specs.declared.symbols.Mode.{Mode}
-use Rattle.gs.specs.declared.symbols.Symbol.{Symbol}
-use Rattle.gs.specs.declared.symbols.Symbol.the-variants.{End, Byte, Reference as Names, Faulty}
-use Rattle.gs.proofs.Places.{Stands, quoteOf, symbol-stands, first-stands}
+use Rattle.symbols.specs.declared.forms.Mode.{Mode}
+use Rattle.symbols.specs.declared.forms.Symbol.{Symbol}
+use Rattle.symbols.specs.declared.forms.Symbol.the-variants.{End, Byte, Reference as Names, Faulty}
+use Rattle.symbols.proofs.Places.{Stands, quoteOf, symbol-stands, first-stands}
 
 -- the three faults of a symbol
 symbol-listed : (number : ℕ) → 7 ≤ number → number ≤ 9 → List·Memᴰ number translateNumbers

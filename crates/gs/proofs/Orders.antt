@@ -7,7 +7,7 @@ use native.Mathlib.Omega.{arith}
 use lib.ListN.{length}
 use Rattle.paper.specs.Refusals.{over-length, longest}
 use Rattle.variables.specs.Tables.{checked}
-use Rattle.variables.specs.Judgements.{Judged, judged-by}
+use Rattle.variables.specs.Judgements.{Judged, judgedBy}
 use Rattle.variables.specs.declared.Checked.{Checked}
 use Rattle.variables.proofs.Judging as Judging
 use Rattle.gs.specs.declared.Translated.{Translated}
@@ -22,13 +22,13 @@ module _ (text table : List ℕ) (flags allowance room : ℕ) where
   too-long h = ap by-judged (sym (Judging.over text table h))
 
   pub over : (d : Checked) → length text ≤ longest → checked table ≡ d
-      → translatedOver (judged-by d) (readingOf text table flags) allowance room ≡ translated text table flags allowance room
+      → translatedOver (judgedBy d) (readingOf text table flags) allowance room ≡ translated text table flags allowance room
   unfolding translated
-  over d h e = ap by-judged (ap judged-by (sym e) ∙ sym (Judging.within text table h))
+  over d h e = ap by-judged (ap judgedBy (sym e) ∙ sym (Judging.within text table h))
 
   -- what holds of the answer to a text that is too long, and of any other's by the check of its table, holds of every translation
   pub in-order : (P : Translated → Type 0) → P (refusedAt over-length 0 0 room)
-      → (length text ≤ longest → P (translatedOver (judged-by (checked table)) (readingOf text table flags) allowance room))
+      → (length text ≤ longest → P (translatedOver (judgedBy (checked table)) (readingOf text table flags) allowance room))
       → P (translated text table flags allowance room)
   in-order P long short = go (decLt longest (length text))
     where

@@ -12,14 +12,14 @@ use lib.ListN.{length, getD, take, drop, length-append, length-take, length-drop
 use lib.Seq.{drop-cons}
 use Rattle.paper.specs.Traces.{Trace, gives, bytes, run}
 use Rattle.variables.specs.Names.{Meaning}
-use Rattle.gs.specs.declared.symbols.Mode.{Mode}
-use Rattle.gs.specs.declared.symbols.Mode.the-variants.{Plain, Quoted}
-use Rattle.gs.specs.Flags.{spaceEnds}
-use Rattle.gs.specs.Symbols.{endingSpace}
-use Rattle.gs.specs.inner.SymbolSteps.{PlainByte, Stretch, alsoEnds}
+use Rattle.symbols.specs.declared.forms.Mode.{Mode}
+use Rattle.symbols.specs.declared.forms.Mode.the-variants.{Plain, Quoted}
+use Rattle.symbols.specs.Flags.{spaceEnds}
+use Rattle.symbols.specs.Symbols.{endingSpace}
+use Rattle.gs.specs.inner.RunSteps.{PlainByte, Stretch, alsoEnds}
 use Rattle.gs.specs.Readings.{Expand, symbolGives, symbolsFrom}
 use Rattle.gs.specs.inner.Steps.{Laid}
-use Rattle.gs.proofs.Laws.{ordinary-byte}
+use Rattle.symbols.proofs.Laws.{ordinary-byte}
 use Rattle.gs.proofs.Pieces.{laid-more}
 use Rattle.gs.proofs.Walk.{Walk}
 

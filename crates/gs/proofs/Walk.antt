@@ -10,17 +10,17 @@ use Rattle.paper.specs.Traces.{faultNumber, Trace, bytes, run, refused}
 use Rattle.paper.specs.declared.TextPlace.{TextPlace}
 use Rattle.paper.specs.declared.faults.Fault.{Fault}
 use Rattle.variables.specs.Names.{Meaning, namesOf}
-use Rattle.gs.specs.Symbols.{symbolAt, firstAt, modeOf}
+use Rattle.symbols.specs.Symbols.{symbolAt, firstAt, modeOf}
 use Rattle.gs.specs.Readings.{Expand, symbolGives, symbolsFrom, wholeText}
 use Rattle.gs.specs.inner.Steps.{Laid, Passes, Came, came-going, came-refused, Read, read-ended, read-refused, referredIn, pieceOf}
-use Rattle.gs.specs.declared.symbols.Mode.{Mode}
-use Rattle.gs.specs.declared.symbols.Symbol.{Symbol}
-use Rattle.gs.specs.declared.symbols.Symbol.the-variants.{End, Byte, Reference, Faulty}
+use Rattle.symbols.specs.declared.forms.Mode.{Mode}
+use Rattle.symbols.specs.declared.forms.Symbol.{Symbol}
+use Rattle.symbols.specs.declared.forms.Symbol.the-variants.{End, Byte, Reference, Faulty}
 use Rattle.gs.specs.declared.expansion.Progress.{Progress}
 use Rattle.gs.specs.declared.expansion.Progress.the-variants as Progresses
 use Rattle.gs.specs.declared.expansion.Expanded.the-variants as Expansions
 use Rattle.gs.proofs.Pieces.{laid-none, laid-more, content-piece}
-use Rattle.gs.proofs.Places.{quoteOf, first-stands}
+use Rattle.symbols.proofs.Places.{quoteOf, first-stands}
 
 -- a reference that came through
 pub record Through (piece : Trace → Trace) (left to far left′ : ℕ) (out after : List ℕ) : Type 0 where

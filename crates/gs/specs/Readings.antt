@@ -12,10 +12,10 @@ use Rattle.reader.specs.Reading.{reading, no-limit}
 use Rattle.reader.specs.declared.Reading.the-variants.{Value, Refused}
 use Rattle.reader.specs.declared.Reading.{Reading as Read}
 use Rattle.variables.specs.Names.{Meaning, unknown, string-of, integer-of, macro-of}
-use Rattle.gs.specs.Symbols.{symbolAt, firstAt, modeOf}
-use Rattle.gs.specs.declared.symbols.Mode.{Mode}
-use Rattle.gs.specs.declared.symbols.Symbol.{Symbol}
-use Rattle.gs.specs.declared.symbols.Symbol.the-variants.{End, Byte, Reference as Names, Faulty}
+use Rattle.symbols.specs.Symbols.{symbolAt, firstAt, modeOf}
+use Rattle.symbols.specs.declared.forms.Mode.{Mode}
+use Rattle.symbols.specs.declared.forms.Symbol.{Symbol}
+use Rattle.symbols.specs.declared.forms.Symbol.the-variants.{End, Byte, Reference as Names, Faulty}
 
 -- bytes given one behind the other
 abbrev pub givesAll : List ℕ → Trace → Trace

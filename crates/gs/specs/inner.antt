@@ -1,3 +1,3 @@
 -- What only the contracts of inner functions cite.
-pub mod SymbolSteps
+pub mod RunSteps
 pub mod Steps

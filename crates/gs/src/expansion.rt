@@ -9,17 +9,18 @@ ghost use Rattle.gs.specs.Readings.{wholeText, expands};
 ghost use Rattle.gs.specs.inner.Steps.{Came, Read, pieceOf, lengthIn, progressOf};
 ghost use Rattle.gs.specs.declared.expansion.Expanded.the-variants as Expanded;
 ghost use Rattle.gs.specs.declared.expansion.Progress.the-variants as Progress;
-use crate::bytes::is_ending_space;
-use crate::flags::Flags;
 use crate::output;
 use crate::references;
 use crate::runs;
-use crate::symbols;
-use crate::symbols::Symbol;
 use paper::ALLOWANCE_SPENT;
 use paper::TOO_BIG;
 use paper::TOO_DEEP;
 use paper::UNKNOWN_NAME;
+use symbols::bytes::is_ending_space;
+use symbols::flags::Flags;
+use symbols::forms::Symbol;
+use symbols::symbols::open;
+use symbols::symbols::symbol_at;
 use variables::Variable;
 
 // What a reference's content stands for.
@@ -142,7 +143,7 @@ pub(crate) fn expand(
     requires { ⌜ (length (now text) ≤ 65535) × (to + length (now text) + 255 * left + 255 ≤ 2 ^ 40) × Keys (now table) (now keys) ⌝ }
     ensures { λ r. ⌜ Read (wholeText (namesOf (now (table .entry))) (expands (namesOf (now (table .entry))) levels) (now (text .entry)) (flags .0)) (length (now (text .entry))) left to (now (out .entry)) (now (out .exit)) r ⌝ }
 {
-    let first = symbols::open(text, flags);
+    let first = open(text, flags);
     let mode = first.mode;
     let mut here = first.at;
     let mut far = to;
@@ -154,7 +155,7 @@ pub(crate) fn expand(
         output::copy(&text[here..run_end], far, out);
         far += run_end - here;
         here = run_end;
-        let symbol = symbols::symbol_at(text, flags, mode, here);
+        let symbol = symbol_at(text, flags, mode, here);
         match symbol {
             Symbol::End(end) => return ended(end.0, far, rest),
             Symbol::Faulty { fault, at: place } => return refused_text(fault.number(), place.0),

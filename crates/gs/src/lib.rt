@@ -6,23 +6,19 @@ ghost use Rattle.paper.specs.Traces.{bytes, answer};
 ghost use Rattle.variables.specs.inner.Keys.{Keys};
 ghost use Rattle.gs.specs.Translations.{readingOf, refusedAt, translatedBy, leftBy, translated, outAfter};
 
-mod bytes;
-mod codes;
 pub mod expansion;
-pub mod flags;
 mod output;
 mod references;
 mod runs;
-pub mod symbols;
 
 use expansion::Expanded;
-use flags::Flags;
 use paper::LONGEST;
 use paper::NO_ROOM;
 use paper::OVER_LENGTH;
 use paper::RecordPlace;
 use paper::TextPlace;
 use paper::allowance::cap;
+use symbols::flags::Flags;
 use variables::Checked;
 
 // What a translation answers.

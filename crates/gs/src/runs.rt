@@ -4,7 +4,7 @@ ghost use mathlib.Core.Path.{_≡_};
 ghost use mathlib.Core.Bool.{true};
 ghost use Prim.Native.Nat.{_+_, _≤_};
 ghost use lib.ListN.{length};
-ghost use Rattle.gs.specs.inner.SymbolSteps.{alsoEnds, PlainByte, Stretch};
+ghost use Rattle.gs.specs.inner.RunSteps.{alsoEnds, PlainByte, Stretch};
 
 // A block's length. Its weight is at most 7 for each byte, and so fits a byte.
 const BLOCK: usize = 16;

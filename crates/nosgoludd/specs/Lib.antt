@@ -1,2 +1,2 @@
 -- The C face.
-pub mod Packed
+pub mod Faces

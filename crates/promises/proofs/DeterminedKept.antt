@@ -15,7 +15,7 @@ use Rattle.variables.specs.Records.{nameByte}
 use Rattle.variables.specs.Tables.{kindNumber, checked, lookedUp}
 use Rattle.variables.specs.inner.Keys.{KeyedAs, matchAs, soughtBy}
 use Rattle.variables.proofs.KeysFind.{one-keyed}
-use Rattle.gs.specs.Flags.{has}
+use Rattle.symbols.specs.Flags.{has}
 use Rattle.gs.specs.Translations.{translated, outAfter}
 use Rattle.arithmetic.specs.Operators as Operators
 use Rattle.arithmetic.specs.Values.{unaryValue, binaryValue}

@@ -21,10 +21,10 @@ use Rattle.reader.specs.Reading.{digit, judged, inBase, numbered, reading, read
 use Rattle.variables.specs.Records.{headed, sized, fitting, nameAt, valueAt, nameByte, small, sameName, entryAt, entries, sought}
 use Rattle.variables.specs.Tables.{sound, scanned, checked}
 use Rattle.variables.specs.Names.{meant}
-use Rattle.gs.specs.Symbols.{symbolAt, active, barred, code, coded, punctuation, toppedCode, toppedSymbol, referred, closed, quotedOther, firstAt, modeOf}
+use Rattle.symbols.specs.Symbols.{symbolAt, active, barred, code, coded, punctuation, toppedCode, toppedSymbol, referred, closed, quotedOther, firstAt, modeOf}
 use Rattle.gs.specs.Readings.{nameGives, contentGives, symbolGives, symbolsFrom, wholeText, expands}
 use Rattle.gs.specs.Translations.{readingOf, leftBy, translated, outAfter, translatedAnswer}
-use Rattle.expressions.specs.Tokens.{wordByte, wordToken, faultOf, single, fromLess, fromGreater, symbolAt as signAt, startingAt}
+use Rattle.tokens.specs.Tokens.{wordByte, wordToken, faultOf, single, fromLess, fromGreater, symbolAt as signAt, startingAt}
 use Rattle.expressions.specs.Trees.{operatorsFrom, operandAt, wholeTree}
 use Rattle.expressions.specs.Evaluations.{divided}
 use Rattle.expressions.specs.Answers.{evaluated, evaluatedNumber, evaluatedCounted, evaluatedPlace, evaluatedValue}

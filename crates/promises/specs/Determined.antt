@@ -17,9 +17,9 @@ use Rattle.variables.proofs.keys.find.Reads as find
 use Rattle.variables.proofs.integers.pattern_of.Reads as pattern-of
 use Rattle.variables.proofs.kinds.Kind.number.Reads as kind-number
 use Rattle.variables.proofs.names.is_name_byte.Reads as is-name-byte
-use Rattle.gs.proofs.flags.Flags.of.Reads as flags-of
-use Rattle.gs.proofs.flags.Flags.none.Reads as flags-none
-use Rattle.gs.proofs.flags.Flags.has.Reads as flags-has
+use Rattle.symbols.proofs.flags.Flags.of.Reads as flags-of
+use Rattle.symbols.proofs.flags.Flags.none.Reads as flags-none
+use Rattle.symbols.proofs.flags.Flags.has.Reads as flags-has
 use Rattle.arithmetic.proofs.operators.Operator.level.Reads as level
 use Rattle.arithmetic.proofs.operators.Operator.stands_alone.Reads as stands-alone
 use Rattle.arithmetic.proofs.operators.Operator.divides.Reads as divides

@@ -15,7 +15,7 @@ use Rattle.variables.specs.declared.Checked.{Checked}
 use Rattle.variables.specs.declared.Found.{Found}
 use Rattle.gs.proofs.translate.Reads as translate
 use Rattle.gs.specs.declared.Translated.{Translated}
-use Rattle.gs.specs.declared.flags.Flags.{Flags}
+use Rattle.symbols.specs.declared.flags.Flags.{Flags}
 use Rattle.expressions.proofs.evaluate.Reads as evaluate
 use Rattle.expressions.specs.declared.Evaluated.{Evaluated}
 use Rattle.promises.specs.Allowed.{Converts, Reads, Checks, LooksUp, Translates, Evaluates}

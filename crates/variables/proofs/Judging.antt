@@ -11,7 +11,7 @@ use lib.ListN.{length}
 use Rattle.paper.specs.Refusals.{allowance-spent, over-length, longest, tooLong}
 use Rattle.paper.proofs.Choice.{clash}
 use Rattle.variables.specs.Tables.{scan, badTable, checked}
-use Rattle.variables.specs.Judgements.{Judged, good, long-text, bad-table, judged-by, judgement}
+use Rattle.variables.specs.Judgements.{Judged, good, long-text, bad-table, judgedBy, judgement}
 use Rattle.variables.specs.declared.Checked.{Checked}
 use Rattle.variables.specs.declared.Checked.the-variants.{Good, BadTable}
 use Rattle.variables.proofs.Bounds.{checked-bounded}
@@ -22,11 +22,11 @@ module _ (text table : List ℕ) where
   over h = rw (lt-ltb longest (length text) h)
 
   -- any other goes by the check of its table
-  pub within : length text ≤ longest → judgement text table ≡ judged-by (checked table)
+  pub within : length text ≤ longest → judgement text table ≡ judgedBy (checked table)
   unfolding checked
   within h = rw (le-ltb longest (length text) h) (go (tooLong table))
     where
-      go : (b : Bool) → cond b (bad-table over-length 0) (judged-by (scan table)) ≡ judged-by (cond b (badTable over-length 0) (scan table))
+      go : (b : Bool) → cond b (bad-table over-length 0) (judgedBy (scan table)) ≡ judgedBy (cond b (badTable over-length 0) (scan table))
       go true = refl
       go false = refl
 
@@ -34,7 +34,7 @@ module _ (text table : List ℕ) where
   pub over-exactly : (judgement text table ≡ long-text) ↔ (longest < length text)
   over-exactly = (λ e. go (decLt longest (length text)) e, over)
     where
-      not-text : (c : Checked) → judged-by c ≡ long-text → ⊥
+      not-text : (c : Checked) → judgedBy c ≡ long-text → ⊥
       not-text (Good count) e = clash (cc)
       not-text (BadTable number at) e = clash (cc)
 
@@ -50,7 +50,7 @@ module _ (text table : List ℕ) where
       go (yes p) = absurd (other (sym e ∙ over p))
       go (no p) = omega arith
 
-    by-check : judged-by (checked table) ≡ c
+    by-check : judgedBy (checked table) ≡ c
     by-check = sym (within not-over) ∙ e
 
   -- the text is read only where it is not too long and its table is good
@@ -60,7 +60,7 @@ module _ (text table : List ℕ) where
       other : good ≡ long-text → ⊥
       other q = clash (cc)
 
-      is-good : (c : Checked) → judged-by c ≡ good → (n : ℕ) × (c ≡ Good n)
+      is-good : (c : Checked) → judgedBy c ≡ good → (n : ℕ) × (c ≡ Good n)
       is-good (Good n) q = (n, refl)
       is-good (BadTable number at) q = clash (cc)
 
@@ -71,7 +71,7 @@ module _ (text table : List ℕ) where
       other : bad-table number place ≡ long-text → ⊥
       other q = clash (cc)
 
-      is-bad : (c : Checked) → judged-by c ≡ bad-table number place → c ≡ badTable number place
+      is-bad : (c : Checked) → judgedBy c ≡ bad-table number place → c ≡ badTable number place
       is-bad (Good n) q = clash (cc)
       is-bad (BadTable n at) q =
           let same-number : n ≡ number = cc in

@@ -14,13 +14,13 @@ pub data Judged : Type 0 where
   -- the refusal's number, and its place in the table
   bad-table : ℕ → ℕ → Judged
 
-abbrev pub judged-by : Checked → Judged
-judged-by (Good count) = good
-judged-by (BadTable number at) = bad-table number (at .0)
+abbrev pub judgedBy : Checked → Judged
+judgedBy (Good count) = good
+judgedBy (BadTable number at) = bad-table number (at .0)
 
 -- Over length of the text, Over length of the table, Bad table: the first of these
 abbrev pub judgement : List ℕ → List ℕ → Judged
 judgement text table =
     cond (tooLong text) long-text (
     cond (tooLong table) (bad-table over-length 0) (
-    judged-by (scan table)))
+    judgedBy (scan table)))

@@ -94,8 +94,8 @@ sameName a b = sameBytes (map small a) (map small b)
 -- the records from a place on that start before `stop`, at most so many
 unfoldable pub entries : ℕ → List ℕ → ℕ → ℕ → List Entry
 entries zero table stop place = []
-entries (suc left) table stop place =
-    let rest = entries left table stop (nextPlace table place) in
+entries (suc more) table stop place =
+    let rest = entries more table stop (nextPlace table place) in
     cond (ltb place stop) (entryAt table place ∷ rest) []
 
 -- a name sought among records: the first that has it, if any

@@ -4,7 +4,7 @@ use mathlib.Core.List.{List, [], _∷_}
 use Prim.Native.Nat.{ℕ, zero, suc}
 use lib.Dec.{leb, eqb}
 use lib.ListN.{length}
-use Rattle.paper.specs.Answers.{in-table}
+use Rattle.paper.specs.Answers.{in-text, in-table}
 use Rattle.paper.specs.Refusals.{unknown-name, bad-table, over-length, tooLong}
 use Rattle.variables.specs.Records.{string-kind, integer-kind, macro-kind, nextPlace, nameAt, valueStart, valueLength, shaped, Entry, entries, Sought, absent, present, sought, isAbsent}
 use Rattle.variables.specs.declared.Checked.{Checked}
@@ -36,8 +36,8 @@ badTable number place = BadTable number (record { 0 = place })
 -- the records one behind the other, up to the slice's end; the first bad one is refused, and anything behind 256 of them
 unfoldable pub scanned : ℕ → ℕ → List ℕ → ℕ → Checked
 scanned zero count table place = cond (leb (length table) place) (Good count) (badTable bad-table place)
-scanned (suc left) count table place =
-    let rest = scanned left (suc count) table (nextPlace table place) in
+scanned (suc more) count table place =
+    let rest = scanned more (suc count) table (nextPlace table place) in
     cond (leb (length table) place) (Good count) (cond (sound table place) rest (badTable bad-table place))
 
 -- a table of any length
@@ -107,10 +107,10 @@ foundNumber (At v) = 0
 foundNumber Unknown = unknown-name
 foundNumber (InBadTable number at) = number
 
--- every place of a look-up is counted in the table
+-- an unknown name's place is the name's start
 abbrev pub foundCounted : Found → ℕ
 foundCounted (At v) = in-table
-foundCounted Unknown = in-table
+foundCounted Unknown = in-text
 foundCounted (InBadTable number at) = in-table
 
 abbrev pub foundPlace : Found → ℕ

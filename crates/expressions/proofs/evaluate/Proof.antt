@@ -6,7 +6,7 @@ use lib.ListN.{length}
 use Rattle.paper.specs.Refusals.{longest}
 use Rattle.paper.specs.Traces.{run, allowed}
 use Rattle.variables.specs.declared.Checked.{Checked}
-use Rattle.variables.specs.Judgements.{judged-by}
+use Rattle.variables.specs.Judgements.{judgedBy}
 use Rattle.variables.proofs.KeysFind.{lines-inside, all-lines}
 use Rattle.expressions.specs.Answers.{readingOf, valueIn, evaluatedBy, evaluatedOver, evaluated}
 use Rattle.expressions.proofs.Orders.{too-long, over}
@@ -22,7 +22,7 @@ module _ (c : tie.After-key-table) where
   -- what was checked decides
   decided :
       {k : Checked} → length (start .args .text .now) ≤ longest → c .key-table .result .checked ≡ k →
-      evaluatedOver (judged-by k) (run (readingOf (start .args .text .now) (start .args .table .now)) (allowed (start .args .allowance))) (valueIn (start .args .text .now) (start .args .table .now))
+      evaluatedOver (judgedBy k) (run (readingOf (start .args .text .now) (start .args .table .now)) (allowed (start .args .allowance))) (valueIn (start .args .text .now) (start .args .table .now))
       ≡ evaluated (start .args .text .now) (start .args .table .now) (start .args .allowance)
   decided h e = over (start .args .text .now) (start .args .table .now) (start .args .allowance) _ h (sym (c .key-table .ensures .checked) ∙ e)
 

@@ -10,15 +10,14 @@ use Rattle.variables.specs.Names.{Meaning}
 use Rattle.arithmetic.specs.Operators.{divides}
 use Rattle.arithmetic.specs.Values.{unaryValue, binaryValue}
 use Rattle.arithmetic.specs.declared.operators.Operator.{Operator}
-use Rattle.expressions.specs.Tokens.{Lexeme, tokenAt}
+use Rattle.tokens.specs.Tokens.{tokenAt}
 use Rattle.expressions.specs.Trees.{Parsed, tree, faulty, Link, binds, none, linkAt}
 use Rattle.expressions.specs.Evaluations.{treeValue, steps}
 use Rattle.expressions.specs.Answers.{refusedAt}
 use Rattle.expressions.specs.declared.Evaluated.{Evaluated}
 use Rattle.expressions.specs.declared.Evaluated.the-variants.{Value as Valued}
-use Rattle.expressions.specs.declared.tokens.Token.{Token}
-use Rattle.expressions.specs.declared.tokens.Token.the-variants.{End, Operator as Operates, Number, FaultyNumber, Name, Open as Bracket, Close, Strange}
-use Rattle.expressions.specs.declared.tokens.Lexed.{Lexed}
+use Rattle.tokens.specs.declared.Token.{Token}
+use Rattle.tokens.specs.declared.Token.the-variants.{End, Operator as Operates, Number, FaultyNumber, Name, Open as Bracket, Close, Strange}
 use Rattle.expressions.specs.declared.levels.Behind.{Behind}
 use Rattle.expressions.specs.declared.levels.Behind.the-variants.{Binds, Other}
 use Rattle.expressions.specs.declared.parts.Account.{Account}
@@ -26,10 +25,7 @@ use Rattle.expressions.specs.declared.parts.Account.the-variants.{Open, 
 use Rattle.expressions.specs.declared.parts.Part.{Part}
 use Rattle.expressions.specs.declared.parts.Part.the-variants.{Value, Refused, Faulty}
 
--- the lexeme and the link that the code's own stand for: each stands for one, and no two for the same
-abbrev pub lexemeOf : Lexed → Lexeme
-lexemeOf lexed = record { token = lexed .token; place = lexed .place; next = lexed .next }
-
+-- the link that the code's own stands for: each stands for one, and no two for the same
 abbrev pub linkOf : Behind → Link
 linkOf (Binds operator place next) = binds operator place next
 linkOf Other = none

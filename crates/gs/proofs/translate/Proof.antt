@@ -7,7 +7,7 @@ use Rattle.paper.specs.Traces.{bytes, answer}
 use Rattle.gs.specs.Translations.{readingOf, translatedBy, translatedOver, leftBy, translated, outAfter}
 use Rattle.gs.proofs.Orders.{too-long, over}
 use Rattle.gs.specs.declared.Translated.{Translated}
-use Rattle.variables.specs.Judgements.{judged-by}
+use Rattle.variables.specs.Judgements.{judgedBy}
 use Rattle.variables.specs.declared.Checked.{Checked}
 use Rattle.variables.proofs.KeysFind.{lines-inside, all-lines}
 use borrow.Author.Needs.{needs}
@@ -48,7 +48,7 @@ module _ (c : tie.After-key-table) where
   by-check :
       {k : Checked} → c .key-table .result .checked ≡ k →
       let a = start .args in
-      translatedOver (judged-by k) (readingOf (a .text .now) table (a .flags .0)) (a .allowance) (length (a .out .now))
+      translatedOver (judgedBy k) (readingOf (a .text .now) table (a .flags .0)) (a .allowance) (length (a .out .now))
       ≡ translated (a .text .now) table (a .flags .0) (a .allowance) (length (a .out .now))
   by-check e =
       let a = start .args in

@@ -5,7 +5,7 @@ use crate::fields::Cursor;
 use crate::frame;
 use crate::slices;
 use gs::Translated;
-use gs::flags::Flags;
+use symbols::flags::Flags;
 
 pub(crate) fn answer(
     line: &[u8],

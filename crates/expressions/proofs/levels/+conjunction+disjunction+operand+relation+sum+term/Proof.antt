@@ -12,7 +12,7 @@ use Rattle.variables.specs.Names.{namesOf}
 use Rattle.expressions.specs.Trees.{faulty, levelAt, operandAt}
 use Rattle.expressions.specs.inner.Steps.{linkOf, partOf}
 use Rattle.expressions.specs.declared.parts.Account.{Account}
-use Rattle.expressions.specs.declared.tokens.Token.the-variants.{End, Number, FaultyNumber, Name, Close, Strange}
+use Rattle.tokens.specs.declared.Token.the-variants.{End, Number, FaultyNumber, Name, Close, Strange}
 use Rattle.expressions.proofs.Chains.{remaining, Chain, begins, goes-on, ends, falls as falls-behind}
 use Rattle.expressions.proofs.Operands.{starts-with, name-stands, misplaced, operator-too-deep, operator-covers, bracket-too-deep, bracket-covers}
 use Rattle.expressions.proofs.levels.conjunction.Reads as conjunction
@@ -43,7 +43,7 @@ use Rattle.expressions.proofs.parts.covered.Reads as covered-reads
 use Rattle.expressions.proofs.parts.joined.Reads as joined-reads
 use Rattle.expressions.proofs.parts.named.Reads as named-reads
 use Rattle.expressions.proofs.parts.number.Reads as number-reads
-use Rattle.expressions.proofs.tokens.token_at.Reads as token-at-reads
+use Rattle.tokens.proofs.token_at.Reads as token-at-reads
 use Rattle.expressions.proofs.levels.+conjunction+disjunction+operand+relation+sum+term.{statement}
 use Rattle.expressions.proofs.levels.+conjunction+disjunction+operand+relation+sum+term.Tie.{close}
 

@@ -8,9 +8,9 @@ use Rattle.paper.proofs.Choice.{same, other}
 use Rattle.arithmetic.specs.Operators.{levelOf}
 use Rattle.expressions.specs.Trees.{binds, none, linkBy}
 use Rattle.arithmetic.specs.declared.operators.Operator.{Operator}
-use Rattle.expressions.specs.declared.tokens.Token.{Token}
-use Rattle.expressions.specs.declared.tokens.Token.the-variants.{End, Operator as Operates, Number, FaultyNumber, Name, Open, Close, Strange}
-use Rattle.expressions.proofs.tokens.Token as Token
+use Rattle.tokens.specs.declared.Token.{Token}
+use Rattle.tokens.specs.declared.Token.the-variants.{End, Operator as Operates, Number, FaultyNumber, Name, Open, Close, Strange}
+use Rattle.tokens.proofs.Token as Token
 use borrow.Author.Needs.{needs}
 use Rattle.expressions.proofs.levels.binding.Statement.{statement}
 use Rattle.expressions.proofs.levels.binding.Tie as tie

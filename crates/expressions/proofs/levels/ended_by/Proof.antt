@@ -8,9 +8,9 @@ use Rattle.paper.specs.declared.faults.Fault.the-variants.{BadExpression}
 use Rattle.expressions.specs.inner.Steps.{endedPartBy}
 use Rattle.expressions.specs.declared.parts.Part.{Part}
 use Rattle.expressions.specs.declared.parts.Part.the-variants.{Faulty}
-use Rattle.expressions.specs.declared.tokens.Token.{Token}
-use Rattle.expressions.specs.declared.tokens.Token.the-variants.{End, Operator as Operates, Number, FaultyNumber, Name, Open as Bracket, Close, Strange}
-use Rattle.expressions.proofs.tokens.Token as Token
+use Rattle.tokens.specs.declared.Token.{Token}
+use Rattle.tokens.specs.declared.Token.the-variants.{End, Operator as Operates, Number, FaultyNumber, Name, Open as Bracket, Close, Strange}
+use Rattle.tokens.proofs.Token as Token
 use borrow.Author.Needs.{needs}
 use Rattle.expressions.proofs.levels.ended_by.Statement.{statement}
 use Rattle.expressions.proofs.levels.ended_by.Tie as tie

@@ -2,11 +2,12 @@
 use mathlib.Core.Path.{_≡_, refl, ap, sym, _∙_}
 use mathlib.Core.List.{List}
 use Prim.Native.Nat.{ℕ}
-use Rattle.expressions.specs.Tokens.{Lexeme, tokenAt}
+use Rattle.tokens.specs.Tokens.{Lexeme, tokenAt}
 use Rattle.expressions.specs.Trees.{Link, linkBy, linkAt}
-use Rattle.expressions.specs.inner.Steps.{lexemeOf, linkBehind}
+use Rattle.tokens.specs.inner.Steps.{lexemeOf}
+use Rattle.expressions.specs.inner.Steps.{linkBehind}
 use Rattle.expressions.specs.declared.parts.Part.{Part}
-use Rattle.expressions.specs.declared.tokens.Lexed.{Lexed}
+use Rattle.tokens.specs.declared.Lexed.{Lexed}
 use borrow.Author.Needs.{needs}
 use Rattle.expressions.proofs.levels.operator_behind.Statement.{statement}
 use Rattle.expressions.proofs.levels.operator_behind.Tie as tie

@@ -12,10 +12,10 @@ use Rattle.gs.specs.inner.Steps.{Came, Read, pieceOf, lengthIn, referred
 use Rattle.variables.specs.declared.Variable.{Variable}
 use Rattle.gs.proofs.Pieces.{value-small}
 use Rattle.gs.proofs.PlainRuns.{at-run}
-use Rattle.gs.proofs.Places.{Stands, quoteOf, symbol-stands}
+use Rattle.symbols.proofs.Places.{Stands, quoteOf, symbol-stands}
 use Rattle.gs.proofs.Follows.{number-gives, too-big-gives, unknown-gives, text-gives, integer-gives, too-deep-gives, spent-gives, value-gives}
-use Rattle.gs.specs.declared.symbols.Mode.{Mode}
-use Rattle.gs.specs.declared.symbols.Symbol.{Symbol}
+use Rattle.symbols.specs.declared.forms.Mode.{Mode}
+use Rattle.symbols.specs.declared.forms.Symbol.{Symbol}
 use Rattle.gs.specs.declared.expansion.Expanded.{Expanded}
 use Rattle.gs.specs.declared.expansion.Expanded.the-variants.{Refused}
 use Rattle.gs.proofs.Walk.{Walk, start, at-end, at-faulty, at-byte, at-reference, at-refused, came-through, came-to-refusal}
@@ -32,16 +32,16 @@ use Rattle.gs.proofs.expansion.progress_of.Reads as progress-of-reads
 use Rattle.gs.proofs.expansion.ended.Reads as ended-reads
 use Rattle.gs.proofs.expansion.refused_text.Reads as refused-text-reads
 use Rattle.gs.proofs.expansion.refused_reference.Reads as refused-reference-reads
-use Rattle.gs.proofs.flags.Flags.none.Reads as none-reads
-use Rattle.gs.proofs.bytes.is_ending_space.Reads as is-ending-space-reads
+use Rattle.symbols.proofs.flags.Flags.none.Reads as none-reads
+use Rattle.symbols.proofs.bytes.is_ending_space.Reads as is-ending-space-reads
 use Rattle.gs.proofs.runs.plain_end.Reads as plain-end-reads
 use Rattle.gs.proofs.output.copy.Reads as copy-reads
 use Rattle.gs.proofs.output.put.Reads as put-reads
 use Rattle.gs.proofs.references.give.Reads as give-reads
 use Rattle.gs.proofs.references.give_integer.Reads as give-integer-reads
 use Rattle.gs.proofs.references.resolve.Reads as resolve-reads
-use Rattle.gs.proofs.symbols.open.Reads as open-reads
-use Rattle.gs.proofs.symbols.symbol_at.Reads as symbol-at-reads
+use Rattle.symbols.proofs.symbols.open.Reads as open-reads
+use Rattle.symbols.proofs.symbols.symbol_at.Reads as symbol-at-reads
 use Rattle.paper.proofs.faults.Fault.number.Reads as number-reads
 use Rattle.variables.proofs.value_of.Reads as value-of-reads
 use Rattle.gs.proofs.expansion.+expand+follow.{statement}
@@ -137,7 +137,7 @@ expand-add-far t c =
     omega (arith, c .before .before .before .before .before .before .before .before .before .before .before .before .before .pre .1, w .place, w .small, run .forward, run .inside)
 
 expand-symbol-at-requires : (t : ℕ) → expand-lts.Need-symbol-at-requires (expand-calls t) (expand-at t) expand.Post expand-Inv-loop expand-μ-loop
-expand-symbol-at-requires t c κs = c .before .before .before .before .before .plain-end .ensures .inside
+expand-symbol-at-requires t c κs = search needs
 
 -- where the symbol at hand is known, behind a run of plain bytes
 module _ (t : ℕ) (c : expand-lts.After-symbol-at (expand-calls t) (expand-at t) expand.Post expand-Inv-loop expand-μ-loop) where

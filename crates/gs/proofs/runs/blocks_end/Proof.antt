@@ -3,7 +3,7 @@
 use Prim.Native.Nat.{_-_}
 use native.Mathlib.Omega.{arith}
 use lib.ListN.{length}
-use Rattle.gs.specs.inner.SymbolSteps.{Stretch}
+use Rattle.gs.specs.inner.RunSteps.{Stretch}
 use Rattle.gs.proofs.PlainRuns.{stretch-more}
 use borrow.Author.Needs.{needs}
 use Rattle.gs.proofs.runs.blocks_end.Statement.{statement}

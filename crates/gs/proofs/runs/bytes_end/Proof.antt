@@ -2,7 +2,7 @@
 -- to `stop`.
 use Prim.Native.Nat.{_-_}
 use native.Mathlib.Omega.{arith}
-use Rattle.gs.specs.inner.SymbolSteps.{Stretch}
+use Rattle.gs.specs.inner.RunSteps.{Stretch}
 use Rattle.gs.proofs.PlainRuns.{stretch-next}
 use borrow.Author.Needs.{needs}
 use borrow.Author.Tests.{not-false}

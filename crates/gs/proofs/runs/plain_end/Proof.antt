@@ -1,7 +1,7 @@
 -- `plain_end` meets its contract: the single bytes, the blocks behind them and the single bytes behind those are runs, one behind the
 -- other.
 use mathlib.Core.Path.{subst}
-use Rattle.gs.specs.inner.SymbolSteps.{Stretch}
+use Rattle.gs.specs.inner.RunSteps.{Stretch}
 use Rattle.gs.proofs.PlainRuns.{stretch-more}
 use borrow.Author.Needs.{needs}
 use Rattle.gs.proofs.runs.plain_end.Statement.{statement}

@@ -3,7 +3,7 @@
 use mathlib.Core.Path.{_≡_, subst}
 use Prim.Native.Nat.{_+_, _-_, _*_, _≤_}
 use native.Mathlib.Omega.{arith}
-use Rattle.gs.specs.inner.SymbolSteps.{Stretch}
+use Rattle.gs.specs.inner.RunSteps.{Stretch}
 use Rattle.gs.proofs.PlainRuns.{stretch-none, stretch-next}
 use borrow.Author.Needs.{needs}
 use Rattle.gs.proofs.runs.weight.Statement.{statement}

@@ -1,2 +1,0 @@
--- A packed answer comes apart again.
-pub mod Unpacked

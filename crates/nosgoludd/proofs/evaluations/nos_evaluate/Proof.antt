@@ -1,0 +1,70 @@
+-- `nos_evaluate` meets its contract: the numbers of `evaluate`'s answer, the value as a signed number.
+use mathlib.Core.Path.{_≡_, ap, sym, _∙_}
+use Prim.Native.Nat.{ℕ}
+use lib.IntN.{ℤ}
+use mir.Syntax.{w32}
+use mir.Val.{SFits, toZ, ofZ}
+use mir.ValLaws.{toZ-ofZ}
+use borrow.Author.Needs.{needs}
+use Rattle.paper.specs.declared.TextPlace.{TextPlace}
+use Rattle.arithmetic.specs.Values.{signed}
+use Rattle.expressions.specs.declared.Evaluated.{Evaluated}
+use Rattle.expressions.specs.declared.Evaluated.the-variants.{Value, Refused, BadTable}
+use Rattle.nosgoludd.specs.declared.evaluations.NosValue.{NosValue}
+use Rattle.nosgoludd.specs.Faces.{evaluationFace}
+use Rattle.nosgoludd.proofs.evaluations.nos_evaluate.Statement.{statement}
+use Rattle.nosgoludd.proofs.evaluations.nos_evaluate.Tie as tie
+
+-- the C form of a value whose number is known
+told : (pattern : ℕ) (end : TextPlace) (value : ℤ) (r : Evaluated) → value ≡ signed pattern → Value pattern end ≡ r
+    → _≡_ {A = NosValue} (record { number = 0; counted = 0; place = end .0; value = value }) (evaluationFace r)
+told pattern end value r v e = ap (λ v. record { number = 0; counted = 0; place = end .0; value = v }) v ∙ ap evaluationFace e
+
+evaluate-requires : tie.Need-evaluate-requires
+evaluate-requires c κs = search needs
+
+enum-known-answer : tie.Need-enum-known-answer
+enum-known-answer c = search needs
+
+signed-requires : tie.Need-signed-requires
+signed-requires c κs = search needs
+
+enum-known-answer-2 : tie.Need-enum-known-answer-2
+enum-known-answer-2 c = search needs
+
+cast-t13 : tie.Need-cast-t13
+cast-t13 c = search needs
+
+enum-known-answer-3 : tie.Need-enum-known-answer-3
+enum-known-answer-3 c = search needs
+
+cast-t14 : tie.Need-cast-t14
+cast-t14 c = search needs
+
+returns : tie.Need-returns
+returns c =
+    told _ _ _ _ (toZ-ofZ w32 (c .signed .result) (record { sfits = c .signed .ok }) ∙ c .signed .ensures)
+    (sym (c .before .before .answer .given .1) ∙ c .before .before .before .before .evaluate .ensures)
+
+returns-2 : tie.Need-returns-2
+unfolding signed
+returns-2 c = ap evaluationFace (sym (c .before .answer2 .given .1) ∙ c .before .before .before .evaluate .ensures)
+
+returns-3 : tie.Need-returns-3
+unfolding signed
+returns-3 c = ap evaluationFace (sym (c .before .answer3 .given .1) ∙ c .before .before .before .evaluate .ensures)
+
+pub nos-evaluate-spec : {M : Type 1} → statement M
+nos-evaluate-spec =
+    tie.close
+    (tie.spec
+    evaluate-requires
+    enum-known-answer
+    signed-requires
+    enum-known-answer-2
+    cast-t13
+    enum-known-answer-3
+    cast-t14
+    returns
+    returns-2
+    returns-3)

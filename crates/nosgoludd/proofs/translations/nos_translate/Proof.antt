@@ -1,0 +1,88 @@
+-- `nos_translate` meets its contract: the numbers of `translate`'s answer.
+use mathlib.Core.Path.{_≡_, ap, sym, _∙_}
+use lib.ListN.{length}
+use borrow.Author.Needs.{needs}
+use Rattle.gs.specs.Translations.{translated, translatedAnswer, outAfter}
+use Rattle.gs.specs.declared.Translated.{Translated}
+use Rattle.nosgoludd.specs.Faces.{answerFace}
+use Rattle.nosgoludd.proofs.translations.nos_translate.Statement.{statement}
+use Rattle.nosgoludd.proofs.translations.nos_translate.Tie as tie
+
+-- the C form of an answer that is known
+told : (c : tie.After-translate) (r : Translated) → c .translate .result ≡ r
+    → let a = c .before .before .before .before .before .before .args in
+    answerFace (translatedAnswer r) ≡ answerFace (translatedAnswer (translated (a .text .now) (a .table .now) (a .flags) (a .allowance) (length (a .out .now))))
+told c r known =
+    let a = c .before .before .before .before .before .before .args in
+    ap (λ r. answerFace (translatedAnswer r))
+    (sym known ∙ c .translate .ensures .0
+    ∙ ap (λ f. translated (a .text .now) (a .table .now) f (a .allowance) (length (a .out .now))) (c .before .before .of .ensures))
+
+left : (c : tie.After-translate)
+    → let a = c .before .before .before .before .before .before .args in c .translate .last .1 .1 .1 .1 .0 ≡ outAfter (a .text .now) (a .table .now) (a .flags) (a .allowance) (a .out .now)
+left c =
+    let a = c .before .before .before .before .before .before .args in
+    c .translate .ensures .1 ∙ ap (λ f. outAfter (a .text .now) (a .table .now) f (a .allowance) (a .out .now)) (c .before .before .of .ensures)
+
+of-requires : tie.Need-of-requires
+of-requires c κs = search needs
+
+translate-requires : tie.Need-translate-requires
+translate-requires c κs = search needs
+
+enum-known-answer : tie.Need-enum-known-answer
+enum-known-answer c = search needs
+
+enum-known-answer-2 : tie.Need-enum-known-answer-2
+enum-known-answer-2 c = search needs
+
+cast-t21 : tie.Need-cast-t21
+cast-t21 c = search needs
+
+enum-known-answer-3 : tie.Need-enum-known-answer-3
+enum-known-answer-3 c = search needs
+
+cast-t22 : tie.Need-cast-t22
+cast-t22 c = search needs
+
+same-length : tie.Need-same-length
+same-length c = search needs
+
+returns : tie.Need-returns
+returns c =
+    let at = c .before .before .before .before .before in
+    (told at _ (c .before .answer .given .1), left at)
+
+same-length-2 : tie.Need-same-length-2
+same-length-2 c = search needs
+
+returns-2 : tie.Need-returns-2
+returns-2 c =
+    let at = c .before .before .before .before .before in
+    (told at _ (c .before .answer2 .given .1), left at)
+
+same-length-3 : tie.Need-same-length-3
+same-length-3 c = search needs
+
+returns-3 : tie.Need-returns-3
+returns-3 c =
+    let at = c .before .before .before .before .before in
+    (told at _ (c .before .answer3 .given .1), left at)
+
+pub nos-translate-spec : {M : Type 1} → statement M
+nos-translate-spec =
+    tie.close
+    (tie.spec
+    of-requires
+    translate-requires
+    enum-known-answer
+    enum-known-answer-2
+    cast-t21
+    enum-known-answer-3
+    cast-t22
+    same-length
+    returns
+    same-length-2
+    returns-2
+    same-length-3
+    returns-3)

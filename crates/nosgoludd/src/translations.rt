@@ -1,0 +1,53 @@
+// A text's translation into a buffer.
+ghost use mathlib.Core.Path.{_≡_};
+ghost use lib.ListN.{length};
+ghost use Rattle.gs.specs.Translations.{translated, translatedAnswer, outAfter};
+ghost use Rattle.nosgoludd.specs.Faces.{answerFace};
+use crate::IN_THE_TABLE;
+use crate::IN_THE_TEXT;
+use crate::NosAnswer;
+use gs::Translated;
+use symbols::flags::Flags;
+
+// Bits 29, 30 and 31 of `flags` are the text's flags; its other bits count for nothing.
+#[no_mangle]
+pub extern "C" fn nos_translate(
+    text: &[u8],
+    table: &[u8],
+    flags: u32,
+    allowance: u32,
+    out: &mut [u8],
+) -> NosAnswer
+    ensures answer { λ r. ⌜ r ≡ answerFace (translatedAnswer (translated (now (text .entry)) (now (table .entry)) flags allowance (length (now (out .entry))))) ⌝ }
+    ensures buffer { λ r. ⌜ now (out .exit) ≡ outAfter (now (text .entry)) (now (table .entry)) flags allowance (now (out .entry)) ⌝ }
+{
+    let answer = gs::translate(text, table, Flags::of(flags), allowance, out);
+    match answer {
+        Translated::Written { end, need, free } => NosAnswer {
+            number: 0,
+            counted: IN_THE_TEXT,
+            place: end.0,
+            need,
+            free,
+        },
+        Translated::Refused {
+            number,
+            at,
+            need,
+            free,
+        } => NosAnswer {
+            number: number as u32,
+            counted: IN_THE_TEXT,
+            place: at.0,
+            need,
+            free,
+        },
+        Translated::BadTable { number, at, free } => NosAnswer {
+            number: number as u32,
+            counted: IN_THE_TABLE,
+            place: at.0,
+            need: 0,
+            free,
+        },
+    }
+}

@@ -1,0 +1,84 @@
+-- `referred` meets its contract: a name of one byte at least, and ">" behind it.
+use mathlib.Core.List.{List}
+use mathlib.Core.Path.{_≡_}
+use Prim.Native.Nat.{ℕ, _+_}
+use native.Mathlib.Omega.{arith}
+use borrow.Author.Needs.{needs}
+use borrow.Author.Tests.{eq-eqb, ne-eqb, lt-ltb, le-ltb}
+use lib.ListN.{drop}
+use Rattle.paper.proofs.Spaces.{inside}
+use Rattle.symbols.specs.Symbols.{nameRun}
+use Rattle.symbols.specs.Symbols.{referred}
+use Rattle.symbols.proofs.symbols.referred.Statement.{statement}
+use Rattle.symbols.proofs.symbols.referred.Tie as tie
+
+module _ (c : tie.After-skip-name) where
+  abbrev text : List ℕ
+  text = c .before .before .args .text .now
+
+  -- how long the name is
+  abbrev run : ℕ
+  run = nameRun (drop (c .before .before .args .at + 1) text)
+
+add-start : tie.Need-add-start
+add-start c = search needs
+
+skip-name-requires : tie.Need-skip-name-requires
+skip-name-requires c κs = search needs
+
+faulty-requires : tie.Need-faulty-requires
+faulty-requires c κs = search needs
+
+returns : tie.Need-returns
+unfolding referred
+returns c = rw (c .faulty .ensures, le-ltb 0 (run (c .before .before)) (omega arith))
+
+byte-requires : tie.Need-byte-requires
+byte-requires c κs = search needs
+
+add-t8 : tie.Need-add-t8
+add-t8 c =
+    let name = c .before .before .before in
+    omega (arith, inside (text name) (name .skip-name .result) (omega arith))
+
+returns-2 : tie.Need-returns-2
+unfolding referred
+returns-2 c =
+    let name = c .before .before .before in
+    let next : name .skip-name .result + 1 ≡ name .before .before .args .at + 2 + run name = omega arith in
+    rw (
+      next,
+      lt-ltb 0 (run name) (omega arith),
+      ← name .skip-name .ensures,
+      ← c .before .byte .ensures,
+      eq-eqb _ _ (c .if2 .taken),
+    )
+
+faulty-requires-2 : tie.Need-faulty-requires-2
+faulty-requires-2 c κs = search needs
+
+returns-3 : tie.Need-returns-3
+unfolding referred
+returns-3 c =
+    let name = c .before .before .before .before in
+    rw (
+      c .faulty2 .ensures,
+      lt-ltb 0 (run name) (omega arith),
+      ← name .skip-name .ensures,
+      ← c .before .before .byte .ensures,
+      ne-eqb _ _ (c .before .if2 .left),
+    )
+
+pub referred-spec : {M : Type 1} → statement M
+referred-spec =
+    tie.close
+    (tie.spec
+    add-start
+    skip-name-requires
+    faulty-requires
+    returns
+    byte-requires
+    add-t8
+    returns-2
+    faulty-requires-2
+    returns-3)

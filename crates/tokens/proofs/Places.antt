@@ -1,0 +1,152 @@
+-- Where tokens stand: an operator, a number, a name or a bracket takes bytes of the text, none of them before the place asked for;
+-- past the last byte stands the text's end.
+use mathlib.Core.Bool.{Bool, true, false, _||_, and-eq-true-iff}
+use mathlib.Core.List.{List}
+use mathlib.Core.Path.{_≡_, refl, sym, ap}
+use Prim.Native.Nat.{ℕ, _+_, _<_, _≤_}
+use native.Mathlib.Omega.{arith}
+use borrow.Author.Tests.{eqb-true, eqb-false}
+use lib.Dec.{ltb, eqb}
+use lib.ListN.{length, getD, drop, length-drop, List·getD-eq-default}
+use Rattle.paper.specs.Bytes.{spaces, ends}
+use Rattle.paper.specs.Refusals.{longest}
+use Rattle.paper.proofs.Choice.{either, hit}
+use Rattle.paper.proofs.Spaces.{inside, spaces-within}
+use Rattle.reader.specs.declared.Reading.{Reading}
+use Rattle.reader.specs.declared.Reading.the-variants.{Value, Refused}
+use Rattle.reader.specs.Reading.{run, goesOn, no-limit, judged, based, inBase, marked, numbered, reading}
+use Rattle.reader.proofs.Laws.{run-within}
+use Rattle.tokens.specs.declared.Token.{Token}
+use Rattle.tokens.specs.declared.Token.the-variants.{End, Operator, Number, FaultyNumber, Name, Open, Close, Strange}
+use Rattle.tokens.specs.Tokens.{letter, wordByte, Lexeme, lexeme, wordAt, numberBy, fromLess, fromGreater, symbolAt, numeral, startingAt, tokenAt}
+use Rattle.tokens.proofs.Laws.{started, word-more, word-within}
+
+-- the tokens that an expression is made of: operators, numbers, names, brackets
+abbrev pub Takes : Token → Type 0
+Takes End = ⊥
+Takes (Operator operator) = Unit {0}
+Takes (Number value) = Unit {0}
+Takes (FaultyNumber fault place) = ⊥
+Takes Name = Unit {0}
+Takes Open = Unit {0}
+Takes Close = Unit {0}
+Takes Strange = ⊥
+
+-- it starts at or behind the place asked for, goes on behind it, and ends inside the text
+pub record Stands (text : List ℕ) (at : ℕ) (l : Lexeme) : Type 0 where
+  pub starts : at ≤ l .place
+  pub forward : l .place < l .next
+  pub within : l .next ≤ length text
+
+-- a number that is read takes a byte at least, and ends inside the text; one that is refused is refused there
+abbrev pub Reads : ℕ → Reading → Type 0
+Reads size (Value n) = (0 < n .end .0) × (n .end .0 ≤ size)
+Reads size (Refused number place) = place .0 ≤ size
+
+module _ (text : List ℕ) (whole : Bool) (limit start : ℕ) where
+  abbrev R : Reading → Type 0
+  R = Reads (length text)
+
+  judged-reads : (first end value : ℕ) → start ≤ length text → first ≤ end → end ≤ length text → R (judged text whole limit start first end value)
+  unfolding judged
+  judged-reads first end value s f e =
+      either R (eqb end first) (λ _. omega arith)
+      (λ n. either R (ltb 4294967295 value) (λ _. s)
+      (λ _. either R (goesOn text whole end) (λ _. e)
+      (λ _. either R (ltb limit value) (λ _. s)
+      (λ _.
+      let some = eqb-false end first n in
+      omega arith))))
+
+  based-reads : (first base : ℕ) → start ≤ length text → first ≤ length text → R (based text whole limit start first base)
+  based-reads first base s f = judged-reads first _ _ s (omega arith) (run-within base first text f)
+
+  in-base-reads : (first base : ℕ) → start ≤ length text → first ≤ length text → R (inBase text whole limit start first base)
+  unfolding inBase
+  in-base-reads first base s f = either R (ltb base 2 || ltb 36 base) (λ _. s) (λ _. based-reads first base s f)
+
+  numbered-reads : start ≤ length text → R (numbered text whole limit start)
+  unfolding numbered
+  numbered-reads s =
+      let mark = start + length (run 10 (drop start text)) in
+      either R (eqb (getD text start 0) 38)
+      (λ hex. based-reads (start + 1) 16 s (omega (arith, inside text start (omega (arith, eqb-true (getD text start 0) 38 hex)))))
+      (λ _. either R (marked text start mark)
+      (λ m.
+      let u = eqb-true (getD text mark 0) 95 (and-eq-true-iff (ltb start mark) _ .0 m .1) in
+      in-base-reads (mark + 1) _ s (omega (arith, inside text mark (omega arith))))
+      (λ _. based-reads start 10 s s))
+
+pub reading-reads : (text : List ℕ) (whole : Bool) (limit : ℕ) → Reads (length text) (reading text whole limit)
+unfolding reading
+reading-reads text whole limit =
+    either (Reads (length text)) (ltb longest (length text)) (λ _. omega arith) (λ _. numbered-reads text whole limit _ (spaces-within text))
+
+-- the token that starts at a place
+module _ (text : List ℕ) (at : ℕ) where
+  abbrev S : Lexeme → Type 0
+  S l = Takes (l .token) → Stands text at l
+
+  sized : (token : Token) (size : ℕ) → 0 < size → at + size ≤ length text → S (lexeme token at size)
+  sized token size some far _ = record { starts = omega arith; forward = omega arith; within = far }
+
+  -- so many bytes, the last of which is known
+  ended : (token : Token) (last byte : ℕ) → 0 < byte → eqb (getD text (at + last) 0) byte ≡ true → S (lexeme token at (last + 1))
+  ended token last byte b e =
+      let h = eqb-true (getD text (at + last) 0) byte e in
+      sized token (last + 1) (omega arith) (omega (arith, inside text (at + last) (omega arith)))
+
+  word-stands : letter (getD text at 0) ≡ true → at < length text → S (wordAt text at)
+  unfolding wordByte
+  word-stands l h = sized _ _ (omega (arith, word-more text at (rw l))) (word-within text at (omega arith))
+
+  number-stands : (r : Reading) → Reads (length (drop at text)) r → S (numberBy r at)
+  number-stands (Value n) r = sized _ _ (r .0) (omega (arith, r .1, length-drop at text))
+  number-stands (Refused number place) r = λ t. absurd t
+
+  module _ (h : at < length text) where
+    less-stands : S (fromLess at (getD text (at + 1) 0))
+    unfolding fromLess
+    less-stands =
+        let c = getD text (at + 1) 0 in
+        either S (eqb c 62) (ended _ 1 62 (omega arith))
+        (λ _. either S (eqb c 61) (ended _ 1 61 (omega arith))
+        (λ _. either S (eqb c 60) (ended _ 1 60 (omega arith)) (λ _. sized _ 1 (omega arith) (omega arith))))
+
+    greater-stands : S (fromGreater at (getD text (at + 1) 0) (getD text (at + 2) 0))
+    unfolding fromGreater
+    greater-stands =
+        let c = getD text (at + 1) 0 in
+        either S (eqb c 61) (ended _ 1 61 (omega arith))
+        (λ _. either S (eqb c 62)
+        (λ second. either S (eqb (getD text (at + 2) 0) 62) (ended _ 2 62 (omega arith)) (λ _. ended _ 1 62 (omega arith) second))
+        (λ _. sized _ 1 (omega arith) (omega arith)))
+
+    symbol-stands : S (symbolAt text at)
+    unfolding symbolAt
+    symbol-stands =
+        let c = getD text at 0 in
+        either S (eqb c 60) (λ _. less-stands)
+        (λ _. either S (eqb c 62) (λ _. greater-stands) (λ _. sized _ 1 (omega arith) (omega arith)))
+
+  starting-stands : S (startingAt text at)
+  unfolding startingAt
+  starting-stands =
+      let c = getD text at 0 in
+      either S (ends c) (λ _ t. absurd t)
+      (λ n.
+      let h = started text at n in
+      either S (letter c) (λ l. word-stands l h)
+      (λ _. either S (numeral c) (λ _. number-stands (reading (drop at text) false no-limit) (reading-reads (drop at text) false no-limit)) (λ _. symbol-stands h)))
+
+  ended-past : length text ≤ at → startingAt text at .token ≡ End
+  unfolding startingAt
+  ended-past h = ap (λ (l : Lexeme). l .token) (sym (hit (ends (getD text at 0)) _ _ (ap ends (List·getD-eq-default text 0 h)) refl))
+
+pub stands : (text : List ℕ) (at : ℕ) → Takes (tokenAt text at .token) → Stands text at (tokenAt text at)
+stands text at t =
+    let s = starting-stands text (at + spaces (drop at text)) t in
+    record { starts = omega arith; forward = s .forward; within = s .within }
+
+pub past-end : (text : List ℕ) (at : ℕ) → length text ≤ at → tokenAt text at .token ≡ End
+past-end text at h = ended-past text (at + spaces (drop at text)) (omega arith)

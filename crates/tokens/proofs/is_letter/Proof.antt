@@ -1,0 +1,19 @@
+-- `is_letter` meets its contract: its tests are the definition's.
+use borrow.Author.Needs.{needs}
+use Rattle.tokens.proofs.is_letter.Statement.{statement}
+use Rattle.tokens.proofs.is_letter.Tie as tie
+
+among-requires : tie.Need-among-requires
+among-requires c κs = search needs
+
+among-requires-2 : tie.Need-among-requires-2
+among-requires-2 c κs = search needs
+
+returns : tie.Need-returns
+returns c = rw (← c .before .among .ensures, c .if1 .taken)
+
+returns-2 : tie.Need-returns-2
+returns-2 c = rw (← c .before .before .among .ensures, c .before .if1 .left) (c .among2 .ensures)
+
+pub is-letter-spec : {M : Type 1} → statement M
+is-letter-spec = tie.close (tie.spec among-requires among-requires-2 returns returns-2)

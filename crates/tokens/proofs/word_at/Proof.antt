@@ -1,0 +1,51 @@
+-- `word_at` meets its contract: the word ends inside the text.
+use mathlib.Core.List.{List}
+use mathlib.Core.Path.{_≡_, ap, ap₂, _∙_}
+use Prim.Native.Nat.{ℕ, _+_, _-_}
+use native.Mathlib.Omega.{arith}
+use borrow.Author.Needs.{needs}
+use lib.ListN.{take, drop}
+use Rattle.tokens.specs.declared.Token.{Token}
+use Rattle.tokens.specs.Tokens.{wordRun, wordToken, wordAt}
+use Rattle.tokens.proofs.Laws.{word-within}
+use Rattle.tokens.proofs.word_at.Statement.{statement}
+use Rattle.tokens.proofs.word_at.Tie as tie
+
+word :
+    (text : List ℕ) (at : ℕ) {token : Token} {next : ℕ} →
+    next ≡ at + wordRun (drop at text) → token ≡ wordToken (take (next - at) (drop at text)) →
+    record { token = token; place = at; next = next } ≡ wordAt text at
+word text at {token} {next} n t =
+    let size : next - at ≡ wordRun (drop at text) = omega arith in
+    ap₂ (λ token next. record { token = token; place = at; next = next }) (t ∙ ap (λ size. wordToken (take size (drop at text))) size) n
+
+skip-word-requires : tie.Need-skip-word-requires
+skip-word-requires c κs = search needs
+
+sub-word-token : tie.Need-sub-word-token
+sub-word-token c = search needs
+
+part-word-token-start : tie.Need-part-word-token-start
+part-word-token-start c = search needs
+
+part-word-token-end : tie.Need-part-word-token-end
+part-word-token-end c = let a = c .before .before .args in omega (arith, word-within (a .text .now) (a .at) (omega arith))
+
+word-token-requires : tie.Need-word-token-requires
+word-token-requires c κs = search needs
+
+returns : tie.Need-returns
+returns c =
+    let a = c .before .before .before .before .args in
+    word (a .text .now) (a .at) (c .before .before .skip-word .ensures) (c .word-token .ensures)
+
+pub word-at-spec : {M : Type 1} → statement M
+word-at-spec =
+    tie.close
+    (tie.spec
+    skip-word-requires
+    sub-word-token
+    part-word-token-start
+    part-word-token-end
+    word-token-requires
+    returns)
