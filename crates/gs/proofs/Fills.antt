@@ -12,8 +12,8 @@ use Rattle.paper.proofs.Choice.{clash, below, not-below, other}
 use Rattle.paper.proofs.DemandThree.{refused-number}
 use Rattle.gs.specs.Translations.{refusedAt, translatedBy}
 use Rattle.gs.specs.inner.Steps.{Read, read-ended, read-refused}
-use Rattle.gs.specs.declared.expansion.Expanded.{Expanded}
-use Rattle.gs.specs.declared.expansion.Expanded.the-variants.{Ended, Refused}
+use Rattle.gs.specs.declared.steps.Expanded.{Expanded}
+use Rattle.gs.specs.declared.steps.Expanded.the-variants.{Ended, Refused}
 use Rattle.gs.specs.declared.Translated.the-variants.{Written}
 
 -- nothing that was lent and came back is nothing before the rest

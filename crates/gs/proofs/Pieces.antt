@@ -26,8 +26,8 @@ use Rattle.variables.proofs.Own.{Own, sought-own, own-value}
 use Rattle.numbers.specs.Calls.{decimalOf}
 use Rattle.gs.specs.Readings.{Expand, givesAll, nameGives, contentGives}
 use Rattle.gs.specs.inner.Steps.{Laid, Passes, partOf, kinded, matchedAs, referredAs, referredIn, pieceOf, lengthIn}
-use Rattle.gs.specs.declared.expansion.Referred.{Referred}
-use Rattle.gs.specs.declared.expansion.Referred.the-variants.{TooBig}
+use Rattle.gs.specs.declared.steps.Referred.{Referred}
+use Rattle.gs.specs.declared.steps.Referred.the-variants.{TooBig}
 
 module _ (rest : Trace) where
   run-all : (bs : List ℕ) (left : ℕ) → run (givesAll bs rest) left ≡ run rest left

@@ -16,9 +16,9 @@ use Rattle.gs.specs.inner.Steps.{Laid, Passes, Came, came-going, came-re
 use Rattle.symbols.specs.declared.forms.Mode.{Mode}
 use Rattle.symbols.specs.declared.forms.Symbol.{Symbol}
 use Rattle.symbols.specs.declared.forms.Symbol.the-variants.{End, Byte, Reference, Faulty}
-use Rattle.gs.specs.declared.expansion.Progress.{Progress}
-use Rattle.gs.specs.declared.expansion.Progress.the-variants as Progresses
-use Rattle.gs.specs.declared.expansion.Expanded.the-variants as Expansions
+use Rattle.gs.specs.declared.steps.Progress.{Progress}
+use Rattle.gs.specs.declared.steps.Progress.the-variants as Progresses
+use Rattle.gs.specs.declared.steps.Expanded.the-variants as Expansions
 use Rattle.gs.proofs.Pieces.{laid-none, laid-more, content-piece}
 use Rattle.symbols.proofs.Places.{quoteOf, first-stands}
 

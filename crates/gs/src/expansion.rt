@@ -7,11 +7,14 @@ ghost use Rattle.variables.specs.inner.Keys.{Keys};
 ghost use Rattle.variables.specs.Names.{namesOf};
 ghost use Rattle.gs.specs.Readings.{wholeText, expands};
 ghost use Rattle.gs.specs.inner.Steps.{Came, Read, pieceOf, lengthIn, progressOf};
-ghost use Rattle.gs.specs.declared.expansion.Expanded.the-variants as Expanded;
-ghost use Rattle.gs.specs.declared.expansion.Progress.the-variants as Progress;
+ghost use Rattle.gs.specs.declared.steps.Expanded.the-variants as Expanded;
+ghost use Rattle.gs.specs.declared.steps.Progress.the-variants as Progress;
 use crate::output;
 use crate::references;
 use crate::runs;
+use crate::steps::Expanded;
+use crate::steps::Progress;
+use crate::steps::Referred;
 use paper::ALLOWANCE_SPENT;
 use paper::TOO_BIG;
 use paper::TOO_DEEP;
@@ -21,29 +24,6 @@ use symbols::flags::Flags;
 use symbols::forms::Symbol;
 use symbols::symbols::open;
 use symbols::symbols::symbol_at;
-use variables::Variable;
-
-// What a reference's content stands for.
-pub enum Referred {
-    Number(u8),
-    TooBig,
-    Unknown,
-    Text(Variable),
-    Integer(Variable),
-    Macro(Variable),
-}
-
-// How far a reference came: to the place `to` of the output with `left` look-ups, or to a refusal.
-pub enum Progress {
-    Going { to: usize, left: u32 },
-    Refused { number: u8, place: usize },
-}
-
-// How far a whole text came: to its end, or to a refusal.
-pub enum Expanded {
-    Ended { end: usize, to: usize, left: u32 },
-    Refused { number: u8, place: usize },
-}
 
 fn refused_reference(number: u8, place: usize) -> Progress
     ensures { λ r. ⌜ r ≡ Progress.Refused number place ⌝ }

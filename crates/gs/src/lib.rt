@@ -6,18 +6,19 @@ ghost use Rattle.paper.specs.Traces.{bytes, answer};
 ghost use Rattle.variables.specs.inner.Keys.{Keys};
 ghost use Rattle.gs.specs.Translations.{readingOf, refusedAt, translatedBy, leftBy, translated, outAfter};
 
-pub mod expansion;
+mod expansion;
 mod output;
 mod references;
 mod runs;
+pub mod steps;
 
-use expansion::Expanded;
 use paper::LONGEST;
 use paper::NO_ROOM;
 use paper::OVER_LENGTH;
 use paper::RecordPlace;
 use paper::TextPlace;
 use paper::allowance::cap;
+use steps::Expanded;
 use symbols::flags::Flags;
 use variables::Checked;
 

@@ -1,4 +1,4 @@
--- An answer in its C form: the paper's numbers as the fields of a struct.
+-- An answer in its C form: the paper's numbers as the fields of a struct. A number that says nothing in an answer is 0.
 use Rattle.paper.specs.Answers.{Answer}
 use Rattle.reader.specs.Reading.{readNumber, readValue, readPlace}
 use Rattle.reader.specs.declared.Reading.{Reading}

@@ -7,7 +7,7 @@ use crate::IN_THE_TEXT;
 use crate::patterns::signed;
 use expressions::Evaluated;
 
-// The refusal's number, 0 where accepted; what the place is counted in; the place; the value.
+// The refusal's number, 0 where accepted; what the place is counted in; the place, which is the text's end where accepted; the value.
 #[repr(C)]
 pub struct NosValue {
     pub number: u32,

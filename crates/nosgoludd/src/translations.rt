@@ -9,7 +9,7 @@ use crate::NosAnswer;
 use gs::Translated;
 use symbols::flags::Flags;
 
-// Bits 29, 30 and 31 of `flags` are the text's flags; its other bits count for nothing.
+// Bits 29, 30 and 31 of `flags` are the text's flags; its other bits count for nothing. Where accepted, the place is the text's end.
 #[no_mangle]
 pub extern "C" fn nos_translate(
     text: &[u8],

@@ -1,5 +1,12 @@
 -- What is promised of is what the contracts say.
-use Rattle.promises.specs.Ties.{Convert, ReadUnsigned, CheckTable, LookUp, Translate, Evaluate, Any}
+use mathlib.Core.Path.{refl, ap, sym, _∙_}
+use mathlib.Core.List.{_++_}
+use lib.ListN.{length, drop}
+use denote.Ref.{now}
+use Rattle.numbers.proofs.PaperNumbers.{converted-kept}
+use Rattle.filter.specs.Answers.{answerTo}
+use Rattle.nosgoludd.specs.Faces.{answerFace}
+use Rattle.promises.specs.Ties.{Convert, ReadUnsigned, CheckTable, LookUp, Translate, Evaluate, NosConvert, NosReadUnsigned, NosCheckTable, NosLookUp, NosTranslate, NosEvaluate, ProgramAnswer, Any}
 
 pub convert : Convert
 convert κs call value buf after r learnt = record { answer = learnt .0; buffer = learnt .1 }
@@ -19,6 +26,34 @@ translate κs text table flags allowance out after r learnt = record { answer = 
 pub evaluate : Evaluate
 evaluate κs text table allowance r learnt = record { answer = learnt }
 
+pub nos-convert : NosConvert
+nos-convert κs call value buf after r learnt =
+    record {
+      answer = _;
+      allowed = record { answer = refl; buffer = learnt .1 };
+      face = learnt .0 ∙ sym (ap answerFace (converted-kept call value (length (now buf))));
+    }
+
+pub nos-read-unsigned : NosReadUnsigned
+nos-read-unsigned κs text whole limit r learnt = record { answer = _; allowed = record { answer = refl }; face = learnt }
+
+pub nos-check-table : NosCheckTable
+nos-check-table κs table r learnt = record { answer = _; allowed = record { answer = refl }; face = learnt }
+
+pub nos-look-up : NosLookUp
+nos-look-up κs name table r learnt = record { answer = _; allowed = record { answer = refl }; face = learnt }
+
+pub nos-translate : NosTranslate
+nos-translate κs text table flags allowance out after r learnt =
+    record { answer = _; allowed = record { answer = refl; buffer = learnt .1 }; face = learnt .0 }
+
+pub nos-evaluate : NosEvaluate
+nos-evaluate κs text table allowance r learnt = record { answer = _; allowed = record { answer = refl }; face = learnt }
+
+pub program-answer : ProgramAnswer
+program-answer κs text out after r learnt =
+    (learnt .0, learnt .1 ∙ ap (λ n. answerTo (now text) ++ drop n (now out)) (learnt .0))
+
 pub any : Any
 any =
     record {
@@ -28,4 +63,11 @@ any =
       look-up = λ κs table name. tt;
       translate = λ κs text table flags allowance out. tt;
       evaluate = λ κs text table allowance. tt;
+      nos-convert = λ κs call value buf. tt;
+      nos-read-unsigned = λ κs text whole limit. tt;
+      nos-check-table = λ κs table. tt;
+      nos-look-up = λ κs name table. tt;
+      nos-translate = λ κs text table flags allowance out. tt;
+      nos-evaluate = λ κs text table allowance. tt;
+      program = λ κs text out. tt;
     }

@@ -16,12 +16,14 @@ use Rattle.variables.specs.Tables.{kindNumber, checked, lookedUp}
 use Rattle.variables.specs.inner.Keys.{KeyedAs, matchAs, soughtBy}
 use Rattle.variables.proofs.KeysFind.{one-keyed}
 use Rattle.symbols.specs.Flags.{has}
-use Rattle.gs.specs.Translations.{translated, outAfter}
+use Rattle.symbols.specs.Symbols.{symbolAt, firstAt, modeOf, endingSpace}
+use Rattle.tokens.specs.Tokens.{Lexeme, tokenAt}
+use Rattle.gs.specs.Translations.{translated, outAfter, translatedAnswer}
 use Rattle.arithmetic.specs.Operators as Operators
 use Rattle.arithmetic.specs.Values.{unaryValue, binaryValue}
 use Rattle.expressions.specs.Answers.{evaluated}
 use Rattle.filter.specs.Answers.{answerTo}
-use Rattle.nosgoludd.specs.Packed.{packedConversion, packedReading, packedCheck, packedFound, packedTranslation, packedEvaluation}
+use Rattle.nosgoludd.specs.Faces.{answerFace, readingFace, checkFace, foundFace, evaluationFace}
 use Rattle.promises.specs.Determined.{One, Determined}
 
 -- what is seen is a function of what is given
@@ -50,6 +52,11 @@ determined =
       pattern-of = function-of (λ (value, _). pattern value) (λ κs a r after c. c);
       kind-number = function-of (λ (kind, _). kindNumber kind) (λ κs a r after c. c);
       is-name-byte = function-of (λ (c, _). nameByte c) (λ κs a r after c. c);
+      symbol-at = function-of (λ (text, (flags, (mode, (at, _)))). symbolAt text (flags .0) mode at) (λ κs a r after c. c);
+      open-text =
+          function-of (λ (text, (flags, _)). record { at = firstAt text (flags .0); mode = modeOf text (flags .0) })
+          (λ κs a r after c. λ i. record { at = c .0 i; mode = c .1 i });
+      is-ending-space = function-of (λ (flags, (mode, (c, _))). endingSpace (flags .0) mode c) (λ κs a r after c. c);
       flags-of = function-of (λ (word, _). record { 0 = word }) (λ κs a r after c. ap (λ w. record { 0 = w }) c);
       flags-none = function-of (λ a. record { 0 = 0 }) (λ κs a r after c. ap (λ w. record { 0 = w }) c);
       flags-has = function-of (λ (flags, (bit, _)). has (flags .0) bit) (λ κs a r after c. c);
@@ -58,20 +65,23 @@ determined =
       divides = function-of (λ (operator, _). Operators.divides operator) (λ κs a r after c. c);
       unary = function-of (λ (operator, (v, _)). unaryValue operator v) (λ κs a r after c. c);
       binary = function-of (λ (operator, (lhs, (rhs, _))). binaryValue operator lhs rhs) (λ κs a r after c. c);
+      token-at =
+          function-of (λ (text, (at, _)). let l = tokenAt text at in record { token = l .token; place = l .place; next = l .next })
+          (λ κs a r after c. ap (λ (l : Lexeme). record { token = l .token; place = l .place; next = l .next }) c);
       answer =
           function-of (λ (text, (out, _)). (length (answerTo text), answerTo text ++ drop (length (answerTo text)) out))
           (λ κs a r after c. ap₂ (λ r out. (r, out)) (c .0) (c .1 ∙ ap (λ n. answerTo (now (a .0)) ++ drop n (now (a .1 .0))) (c .0)));
       nos-convert =
-          function-of (λ (call, (value, (buf, _))). (packedConversion (convertedBy (answerOf call value (length buf))), bufferOf call value buf))
+          function-of (λ (call, (value, (buf, _))). (answerFace (answerOf call value (length buf)), bufferOf call value buf))
           (λ κs a r after c. ap₂ (λ r buf. (r, buf)) (c .0) (c .1));
       nos-read-unsigned =
-          function-of (λ (text, (whole, (limit, _))). packedReading (reading text (not (eqb whole 0)) limit)) (λ κs a r after c. c);
-      nos-check-table = function-of (λ (table, _). packedCheck (checked table)) (λ κs a r after c. c);
-      nos-look-up = function-of (λ (table, (name, _)). packedFound (lookedUp table name)) (λ κs a r after c. c);
+          function-of (λ (text, (whole, (limit, _))). readingFace (reading text (not (eqb whole 0)) limit)) (λ κs a r after c. c);
+      nos-check-table = function-of (λ (table, _). checkFace (checked table)) (λ κs a r after c. c);
+      nos-look-up = function-of (λ (name, (table, _)). foundFace (lookedUp table name)) (λ κs a r after c. c);
       nos-translate =
           function-of
           (λ (text, (table, (flags, (allowance, (out, _))))).
-          (packedTranslation (translated text table flags allowance (length out)), outAfter text table flags allowance out))
+          (answerFace (translatedAnswer (translated text table flags allowance (length out))), outAfter text table flags allowance out))
           (λ κs a r after c. ap₂ (λ r out. (r, out)) (c .0) (c .1));
-      nos-evaluate = function-of (λ (text, (table, (allowance, _))). packedEvaluation (evaluated text table allowance)) (λ κs a r after c. c);
+      nos-evaluate = function-of (λ (text, (table, (allowance, _))). evaluationFace (evaluated text table allowance)) (λ κs a r after c. c);
     }

@@ -65,5 +65,12 @@ promises =
       evaluate-accepted = Evaluations.accepted-when;
       evaluate-larger = Evaluations.larger;
       evaluate-spent = Evaluations.spent-comes;
+      nos-convert-tied = Contracts.nos-convert;
+      nos-read-unsigned-tied = Contracts.nos-read-unsigned;
+      nos-check-table-tied = Contracts.nos-check-table;
+      nos-look-up-tied = Contracts.nos-look-up;
+      nos-translate-tied = Contracts.nos-translate;
+      nos-evaluate-tied = Contracts.nos-evaluate;
+      program-answer = Contracts.program-answer;
       others-determined = determined;
     }

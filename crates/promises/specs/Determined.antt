@@ -25,13 +25,17 @@ use Rattle.arithmetic.proofs.operators.Operator.stands_alone.Reads as stands-al
 use Rattle.arithmetic.proofs.operators.Operator.divides.Reads as divides
 use Rattle.arithmetic.proofs.values.unary.Reads as unary
 use Rattle.arithmetic.proofs.values.binary.Reads as binary
+use Rattle.symbols.proofs.symbols.symbol_at.Reads as symbol-at
+use Rattle.symbols.proofs.symbols.open.Reads as open-text
+use Rattle.symbols.proofs.bytes.is_ending_space.Reads as is-ending-space
+use Rattle.tokens.proofs.token_at.Reads as token-at
 use Rattle.filter.proofs.answer.Reads as answer
-use Rattle.nosgoludd.proofs.nos_convert.Reads as nos-convert
-use Rattle.nosgoludd.proofs.nos_read_unsigned.Reads as nos-read-unsigned
-use Rattle.nosgoludd.proofs.nos_check_table.Reads as nos-check-table
-use Rattle.nosgoludd.proofs.nos_look_up.Reads as nos-look-up
-use Rattle.nosgoludd.proofs.nos_translate.Reads as nos-translate
-use Rattle.nosgoludd.proofs.nos_evaluate.Reads as nos-evaluate
+use Rattle.nosgoludd.proofs.conversions.nos_convert.Reads as nos-convert
+use Rattle.nosgoludd.proofs.readings.nos_read_unsigned.Reads as nos-read-unsigned
+use Rattle.nosgoludd.proofs.checks.nos_check_table.Reads as nos-check-table
+use Rattle.nosgoludd.proofs.lookups.nos_look_up.Reads as nos-look-up
+use Rattle.nosgoludd.proofs.translations.nos_translate.Reads as nos-translate
+use Rattle.nosgoludd.proofs.evaluations.nos_evaluate.Reads as nos-evaluate
 
 -- Of two calls, anywhere, that are given the same, whatever their callers learn, the same is seen. `Learnt` is a function's contract:
 -- of the lifetimes, the arguments, the answer, and the parameters afterwards
@@ -74,7 +78,10 @@ pub record Determined : Type 0 where
   pub pattern-of : One pattern-of.Learnt (lent rest) answer-alone
   pub kind-number : One kind-number.Learnt rest answer-alone
   pub is-name-byte : One is-name-byte.Learnt rest answer-alone
-  -- gs
+  -- symbols
+  pub symbol-at : One symbol-at.Learnt (lent rest) answer-alone
+  pub open-text : One open-text.Learnt (lent rest) answer-alone
+  pub is-ending-space : One is-ending-space.Learnt rest answer-alone
   pub flags-of : One flags-of.Learnt rest answer-alone
   pub flags-none : One flags-none.Learnt rest answer-alone
   pub flags-has : One flags-has.Learnt rest answer-alone
@@ -84,6 +91,8 @@ pub record Determined : Type 0 where
   pub divides : One divides.Learnt rest answer-alone
   pub unary : One unary.Learnt rest answer-alone
   pub binary : One binary.Learnt rest answer-alone
+  -- tokens
+  pub token-at : One token-at.Learnt (lent rest) answer-alone
   -- filter
   pub answer : One answer.Learnt (lent (lent rest)) (answer-and (λ (text, (out, _)). out))
   -- nosgoludd

@@ -69,4 +69,13 @@ pub record Promises : Type 0 where
   pub evaluate-larger : Evaluations.Larger
   pub evaluate-spent : Evaluations.Spent
   -- the other public functions
+
+  -- the C face, and the program
+  pub nos-convert-tied : Ties.NosConvert
+  pub nos-read-unsigned-tied : Ties.NosReadUnsigned
+  pub nos-check-table-tied : Ties.NosCheckTable
+  pub nos-look-up-tied : Ties.NosLookUp
+  pub nos-translate-tied : Ties.NosTranslate
+  pub nos-evaluate-tied : Ties.NosEvaluate
+  pub program-answer : Ties.ProgramAnswer
   pub others-determined : Determined

@@ -1,8 +1,11 @@
 -- That the promises are made of the contracts themselves: whatever a caller learns of a call is what `Allowed` has, and a call asks nothing of
 -- its arguments, so that every input is taken.
-use mathlib.Core.Bool.{Bool}
-use mathlib.Core.List.{List}
+use mathlib.Core.Bool.{Bool, not}
+use mathlib.Core.List.{List, _++_}
+use mathlib.Core.Path.{_≡_}
 use Prim.Native.Nat.{ℕ}
+use lib.Dec.{eqb}
+use lib.ListN.{length, drop}
 use contract.Lifetimes.{Lfts}
 use denote.Ref.{RefT, now}
 use Rattle.numbers.proofs.convert.Reads as convert
@@ -18,6 +21,22 @@ use Rattle.gs.specs.declared.Translated.{Translated}
 use Rattle.symbols.specs.declared.flags.Flags.{Flags}
 use Rattle.expressions.proofs.evaluate.Reads as evaluate
 use Rattle.expressions.specs.declared.Evaluated.{Evaluated}
+use Rattle.numbers.specs.Calls.{convertedAnswer}
+use Rattle.gs.specs.Translations.{translatedAnswer}
+use Rattle.filter.proofs.answer.Reads as program
+use Rattle.filter.specs.Answers.{answerTo}
+use Rattle.nosgoludd.proofs.conversions.nos_convert.Reads as nos-convert
+use Rattle.nosgoludd.proofs.readings.nos_read_unsigned.Reads as nos-read-unsigned
+use Rattle.nosgoludd.proofs.checks.nos_check_table.Reads as nos-check-table
+use Rattle.nosgoludd.proofs.lookups.nos_look_up.Reads as nos-look-up
+use Rattle.nosgoludd.proofs.translations.nos_translate.Reads as nos-translate
+use Rattle.nosgoludd.proofs.evaluations.nos_evaluate.Reads as nos-evaluate
+use Rattle.nosgoludd.specs.Faces.{answerFace, readingFace, checkFace, foundFace, evaluationFace}
+use Rattle.nosgoludd.specs.declared.NosAnswer.{NosAnswer}
+use Rattle.nosgoludd.specs.declared.readings.NosNumber.{NosNumber}
+use Rattle.nosgoludd.specs.declared.checks.NosChecked.{NosChecked}
+use Rattle.nosgoludd.specs.declared.lookups.NosVariable.{NosVariable}
+use Rattle.nosgoludd.specs.declared.evaluations.NosValue.{NosValue}
 use Rattle.promises.specs.Allowed.{Converts, Reads, Checks, LooksUp, Translates, Evaluates}
 
 abbrev pub Convert : Type 0
@@ -49,6 +68,74 @@ Evaluate =
     (κs : Lfts 2) (text table : RefT (List ℕ)) (allowance : ℕ) (r : Evaluated)
     → evaluate.Learnt κs (text, (table, (allowance, tt))) r (text, (table, (allowance, tt))) → Evaluates (now text) (now table) allowance r
 
+-- The C face: what a caller learns is the fields of an answer that the operation's contract allows, and what it leaves
+pub record FaceConverts (call value : ℕ) (buf : List ℕ) (r : NosAnswer) (after : List ℕ) : Type 0 where
+  pub answer : Converted
+  pub allowed : Converts call value buf answer after
+  pub face : r ≡ answerFace (convertedAnswer answer)
+
+abbrev pub NosConvert : Type 0
+NosConvert =
+    (κs : Lfts 1) (call value : ℕ) (buf after : RefT (List ℕ)) (r : NosAnswer)
+    → nos-convert.Learnt κs (call, (value, (buf, tt))) r (call, (value, (after, tt))) → FaceConverts call value (now buf) r (now after)
+
+-- whole is off at 0 and on at every other number
+pub record FaceReads (text : List ℕ) (whole limit : ℕ) (r : NosNumber) : Type 0 where
+  pub answer : Reading
+  pub allowed : Reads text (not (eqb whole 0)) limit answer
+  pub face : r ≡ readingFace answer
+
+abbrev pub NosReadUnsigned : Type 0
+NosReadUnsigned =
+    (κs : Lfts 1) (text : RefT (List ℕ)) (whole limit : ℕ) (r : NosNumber)
+    → nos-read-unsigned.Learnt κs (text, (whole, (limit, tt))) r (text, (whole, (limit, tt))) → FaceReads (now text) whole limit r
+
+pub record FaceChecks (table : List ℕ) (r : NosChecked) : Type 0 where
+  pub answer : Checked
+  pub allowed : Checks table answer
+  pub face : r ≡ checkFace answer
+
+abbrev pub NosCheckTable : Type 0
+NosCheckTable = (κs : Lfts 1) (table : RefT (List ℕ)) (r : NosChecked) → nos-check-table.Learnt κs (table, tt) r (table, tt) → FaceChecks (now table) r
+
+pub record FaceLooksUp (table name : List ℕ) (r : NosVariable) : Type 0 where
+  pub answer : Found
+  pub allowed : LooksUp table name answer
+  pub face : r ≡ foundFace answer
+
+abbrev pub NosLookUp : Type 0
+NosLookUp =
+    (κs : Lfts 2) (name table : RefT (List ℕ)) (r : NosVariable)
+    → nos-look-up.Learnt κs (name, (table, tt)) r (name, (table, tt)) → FaceLooksUp (now table) (now name) r
+
+pub record FaceTranslates (text table : List ℕ) (flags allowance : ℕ) (out : List ℕ) (r : NosAnswer) (after : List ℕ) : Type 0 where
+  pub answer : Translated
+  pub allowed : Translates text table flags allowance out answer after
+  pub face : r ≡ answerFace (translatedAnswer answer)
+
+abbrev pub NosTranslate : Type 0
+NosTranslate =
+    (κs : Lfts 3) (text table : RefT (List ℕ)) (flags allowance : ℕ) (out after : RefT (List ℕ)) (r : NosAnswer)
+    → nos-translate.Learnt κs (text, (table, (flags, (allowance, (out, tt))))) r (text, (table, (flags, (allowance, (after, tt)))))
+    → FaceTranslates (now text) (now table) flags allowance (now out) r (now after)
+
+pub record FaceEvaluates (text table : List ℕ) (allowance : ℕ) (r : NosValue) : Type 0 where
+  pub answer : Evaluated
+  pub allowed : Evaluates text table allowance answer
+  pub face : r ≡ evaluationFace answer
+
+abbrev pub NosEvaluate : Type 0
+NosEvaluate =
+    (κs : Lfts 2) (text table : RefT (List ℕ)) (allowance : ℕ) (r : NosValue)
+    → nos-evaluate.Learnt κs (text, (table, (allowance, tt))) r (text, (table, (allowance, tt))) → FaceEvaluates (now text) (now table) allowance r
+
+-- The program's answer to a text: its translation, or the line of its refusal, at the start of the buffer, and the rest of the buffer kept
+abbrev pub ProgramAnswer : Type 0
+ProgramAnswer =
+    (κs : Lfts 2) (text out after : RefT (List ℕ)) (r : ℕ)
+    → program.Learnt κs (text, (out, tt)) r (text, (after, tt))
+    → (r ≡ length (answerTo (now text))) × (now after ≡ answerTo (now text) ++ drop (length (answerTo (now text))) (now out))
+
 -- nothing is asked of any argument
 pub record Any : Type 0 where
   pub convert : (κs : Lfts 1) (call value : ℕ) (buf : RefT (List ℕ)) → convert.Asked κs (call, (value, (buf, tt)))
@@ -58,3 +145,11 @@ pub record Any : Type 0 where
   pub translate : (κs : Lfts 3) (text table : RefT (List ℕ)) (flags : Flags) (allowance : ℕ) (out : RefT (List ℕ))
       → translate.Asked κs (text, (table, (flags, (allowance, (out, tt)))))
   pub evaluate : (κs : Lfts 2) (text table : RefT (List ℕ)) (allowance : ℕ) → evaluate.Asked κs (text, (table, (allowance, tt)))
+  pub nos-convert : (κs : Lfts 1) (call value : ℕ) (buf : RefT (List ℕ)) → nos-convert.Asked κs (call, (value, (buf, tt)))
+  pub nos-read-unsigned : (κs : Lfts 1) (text : RefT (List ℕ)) (whole limit : ℕ) → nos-read-unsigned.Asked κs (text, (whole, (limit, tt)))
+  pub nos-check-table : (κs : Lfts 1) (table : RefT (List ℕ)) → nos-check-table.Asked κs (table, tt)
+  pub nos-look-up : (κs : Lfts 2) (name table : RefT (List ℕ)) → nos-look-up.Asked κs (name, (table, tt))
+  pub nos-translate : (κs : Lfts 3) (text table : RefT (List ℕ)) (flags allowance : ℕ) (out : RefT (List ℕ))
+      → nos-translate.Asked κs (text, (table, (flags, (allowance, (out, tt)))))
+  pub nos-evaluate : (κs : Lfts 2) (text table : RefT (List ℕ)) (allowance : ℕ) → nos-evaluate.Asked κs (text, (table, (allowance, tt)))
+  pub program : (κs : Lfts 2) (text out : RefT (List ℕ)) → program.Asked κs (text, (out, tt))

@@ -22,12 +22,12 @@ use Rattle.variables.specs.declared.Variable.{Variable}
 use Rattle.variables.specs.declared.kinds.Kind.{Kind}
 use Rattle.variables.specs.declared.kinds.Kind.the-variants as Kinds
 use Rattle.gs.specs.Readings.{Expand, givesAll}
-use Rattle.gs.specs.declared.expansion.Referred.{Referred}
-use Rattle.gs.specs.declared.expansion.Referred.the-variants.{Number, TooBig, Unknown, Text, Integer, Macro}
-use Rattle.gs.specs.declared.expansion.Progress.{Progress}
-use Rattle.gs.specs.declared.expansion.Progress.the-variants as Progresses
-use Rattle.gs.specs.declared.expansion.Expanded.{Expanded}
-use Rattle.gs.specs.declared.expansion.Expanded.the-variants as Expansions
+use Rattle.gs.specs.declared.steps.Referred.{Referred}
+use Rattle.gs.specs.declared.steps.Referred.the-variants.{Number, TooBig, Unknown, Text, Integer, Macro}
+use Rattle.gs.specs.declared.steps.Progress.{Progress}
+use Rattle.gs.specs.declared.steps.Progress.the-variants as Progresses
+use Rattle.gs.specs.declared.steps.Expanded.{Expanded}
+use Rattle.gs.specs.declared.steps.Expanded.the-variants as Expansions
 
 -- bytes laid into a buffer at a place, where they fit; what else it then holds is nobody's concern
 pub record Laid (out : List ℕ) (to : ℕ) (given after : List ℕ) : Type 0 where

@@ -16,8 +16,8 @@ use Rattle.symbols.proofs.Places.{Stands, quoteOf, symbol-stands}
 use Rattle.gs.proofs.Follows.{number-gives, too-big-gives, unknown-gives, text-gives, integer-gives, too-deep-gives, spent-gives, value-gives}
 use Rattle.symbols.specs.declared.forms.Mode.{Mode}
 use Rattle.symbols.specs.declared.forms.Symbol.{Symbol}
-use Rattle.gs.specs.declared.expansion.Expanded.{Expanded}
-use Rattle.gs.specs.declared.expansion.Expanded.the-variants.{Refused}
+use Rattle.gs.specs.declared.steps.Expanded.{Expanded}
+use Rattle.gs.specs.declared.steps.Expanded.the-variants.{Refused}
 use Rattle.gs.proofs.Walk.{Walk, start, at-end, at-faulty, at-byte, at-reference, at-refused, came-through, came-to-refusal}
 use Prim.Native.Nat.{ℕ, _<_}
 use borrow.Fn.Kinds.{In}

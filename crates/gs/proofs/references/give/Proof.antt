@@ -8,7 +8,7 @@ use borrow.Author.Needs.{needs}
 use Rattle.paper.specs.Traces.{Trace, asks, spends, run}
 use Rattle.gs.specs.Readings.{givesAll}
 use Rattle.gs.specs.inner.Steps.{Laid, Passes, Came, came-going, came-refused}
-use Rattle.gs.specs.declared.expansion.Progress.the-variants.{Going, Refused}
+use Rattle.gs.specs.declared.steps.Progress.the-variants.{Going, Refused}
 use Rattle.gs.proofs.Pieces.{passes-all}
 use Rattle.gs.proofs.references.give.Statement.{statement}
 use Rattle.gs.proofs.references.give.Tie as tie

@@ -13,8 +13,8 @@ use Rattle.reader.specs.declared.Reading.the-variants.{Value, Refused}
 use Rattle.variables.specs.Tables.{soughtIn}
 use Rattle.variables.specs.inner.Keys.{matchAs}
 use Rattle.gs.specs.inner.Steps.{matchedAs, referredAs, referredIn}
-use Rattle.gs.specs.declared.expansion.Referred.{Referred}
-use Rattle.gs.specs.declared.expansion.Referred.the-variants.{Number, TooBig}
+use Rattle.gs.specs.declared.steps.Referred.{Referred}
+use Rattle.gs.specs.declared.steps.Referred.the-variants.{Number, TooBig}
 use Rattle.gs.proofs.references.resolve.Statement.{statement}
 use Rattle.gs.proofs.references.resolve.Tie as tie
 

@@ -1,5 +1,5 @@
 -- `nos_check_table` meets its contract: the numbers of `check_table`'s answer. A good table has few records.
-use mathlib.Core.Path.{_≡_, ap, sym, subst, _∙_}
+use mathlib.Core.Path.{ap, sym, subst, _∙_}
 use native.Mathlib.Omega.{arith}
 use borrow.Author.Needs.{needs}
 use Rattle.variables.proofs.Bounds.{Bounded, checked-bounded}

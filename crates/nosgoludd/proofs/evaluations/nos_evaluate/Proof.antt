@@ -3,13 +3,12 @@ use mathlib.Core.Path.{_≡_, ap, sym, _∙_}
 use Prim.Native.Nat.{ℕ}
 use lib.IntN.{ℤ}
 use mir.Syntax.{w32}
-use mir.Val.{SFits, toZ, ofZ}
 use mir.ValLaws.{toZ-ofZ}
 use borrow.Author.Needs.{needs}
 use Rattle.paper.specs.declared.TextPlace.{TextPlace}
 use Rattle.arithmetic.specs.Values.{signed}
 use Rattle.expressions.specs.declared.Evaluated.{Evaluated}
-use Rattle.expressions.specs.declared.Evaluated.the-variants.{Value, Refused, BadTable}
+use Rattle.expressions.specs.declared.Evaluated.the-variants.{Value}
 use Rattle.nosgoludd.specs.declared.evaluations.NosValue.{NosValue}
 use Rattle.nosgoludd.specs.Faces.{evaluationFace}
 use Rattle.nosgoludd.proofs.evaluations.nos_evaluate.Statement.{statement}

@@ -1,5 +1,6 @@
 -- `nos_translate` meets its contract: the numbers of `translate`'s answer.
 use mathlib.Core.Path.{_≡_, ap, sym, _∙_}
+use Prim.Native.Nat.{ℕ}
 use lib.ListN.{length}
 use borrow.Author.Needs.{needs}
 use Rattle.gs.specs.Translations.{translated, translatedAnswer, outAfter}
@@ -8,6 +9,10 @@ use Rattle.nosgoludd.specs.Faces.{answerFace}
 use Rattle.nosgoludd.proofs.translations.nos_translate.Statement.{statement}
 use Rattle.nosgoludd.proofs.translations.nos_translate.Tie as tie
 
+-- what holds with the flags as they are kept holds with the number that they came from
+carried : {A : Type 0} (f : ℕ → A) {kept flags : ℕ} {r : A} → r ≡ f kept → kept ≡ flags → r ≡ f flags
+carried f e k = e ∙ ap f k
+
 -- the C form of an answer that is known
 told : (c : tie.After-translate) (r : Translated) → c .translate .result ≡ r
     → let a = c .before .before .before .before .before .before .args in
@@ -15,14 +20,14 @@ told : (c : tie.After-translate) (r : Translated) → c .translate .result ≡ r
 told c r known =
     let a = c .before .before .before .before .before .before .args in
     ap (λ r. answerFace (translatedAnswer r))
-    (sym known ∙ c .translate .ensures .0
-    ∙ ap (λ f. translated (a .text .now) (a .table .now) f (a .allowance) (length (a .out .now))) (c .before .before .of .ensures))
+    (sym known
+    ∙ carried (λ f. translated (a .text .now) (a .table .now) f (a .allowance) (length (a .out .now))) (c .translate .ensures .0) (c .before .before .of .ensures))
 
 left : (c : tie.After-translate)
     → let a = c .before .before .before .before .before .before .args in c .translate .last .1 .1 .1 .1 .0 ≡ outAfter (a .text .now) (a .table .now) (a .flags) (a .allowance) (a .out .now)
 left c =
     let a = c .before .before .before .before .before .before .args in
-    c .translate .ensures .1 ∙ ap (λ f. outAfter (a .text .now) (a .table .now) f (a .allowance) (a .out .now)) (c .before .before .of .ensures)
+    carried (λ f. outAfter (a .text .now) (a .table .now) f (a .allowance) (a .out .now)) (c .translate .ensures .1) (c .before .before .of .ensures)
 
 of-requires : tie.Need-of-requires
 of-requires c κs = search needs
