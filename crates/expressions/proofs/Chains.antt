@@ -102,11 +102,11 @@ module _ (names : List ℕ → Meaning) (text : List ℕ) (tighter levels : ℕ)
         further (faulty fault p) o t n j b h = let z : _≡_ {A = ℕ} 0 1 = cc in absurd (omega arith)
 
     -- an operator of the level behind the part: both with it are the part so far
-    pub goes-on : (part rhs new : Part) → Chain account at part → Behind-it part → rhs ≡ partOf names (accountOf part) (below next)
-        → new ≡ joinedPart operator place part rhs → Chain account at new
-    goes-on part rhs new c e r j =
+    pub goes-on : (part rhs new : Part) (behind : Account) → Chain account at part → Behind-it part → behind ≡ accountOf part
+        → rhs ≡ partOf names behind (below next) → new ≡ joinedPart operator place part rhs → Chain account at new
+    goes-on part rhs new behind c e b r j =
         subst (Chain account at)
-        (sym (j ∙ ap (joinedPart operator place part) r ∙ ap (λ p. joinedPart operator place p (partOf names (accountOf p) (below next))) (c .is)))
+        (sym (j ∙ ap (joinedPart operator place part) (r ∙ ap (λ b. partOf names b (below next)) b) ∙ ap (λ p. joinedPart operator place p (partOf names (accountOf p) (below next))) (c .is)))
         (go-on (c .more) (c .parsed) (sym (ap (linkBehind text (suc tighter)) (c .is)) ∙ e) (c .leads) (c .enough))
 
   -- what remains of the text falls

@@ -34,7 +34,10 @@ pub look-up-refusals : LookUpRefusals
 look-up-refusals table name r c = Memᴰ·cast (ap foundNumber (c .answer)) (looked-up-bounded table name .listed)
 
 pub over-length : OverLength
-over-length table r c = subst (λ n. (n ≡ _) ↔ _) (sym (ap checkNumber (c .answer))) (over-length-exactly table)
+over-length table r c =
+    let exactly = over-length-exactly table in
+    let same = ap checkNumber (c .answer) in
+    (λ h. exactly .0 (sym same ∙ h), λ h. same ∙ exactly .1 h)
 
 module _ (table : List ℕ) where
   -- a table whose number is 0 is a good one

@@ -68,8 +68,6 @@ pub record Promises : Type 0 where
   pub evaluate-accepted : Evaluations.Accepted
   pub evaluate-larger : Evaluations.Larger
   pub evaluate-spent : Evaluations.Spent
-  -- the other public functions
-
   -- the C face, and the program
   pub nos-convert-tied : Ties.NosConvert
   pub nos-read-unsigned-tied : Ties.NosReadUnsigned
@@ -78,4 +76,5 @@ pub record Promises : Type 0 where
   pub nos-translate-tied : Ties.NosTranslate
   pub nos-evaluate-tied : Ties.NosEvaluate
   pub program-answer : Ties.ProgramAnswer
+  -- every other public function
   pub others-determined : Determined

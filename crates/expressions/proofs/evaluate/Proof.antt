@@ -1,6 +1,7 @@
 -- `evaluate` meets its contract: 18 for the text, 18 and 13 for the table, then the reading.
 use mathlib.Core.Path.{_≡_, ap, sym, _∙_}
-use Prim.Native.Nat.{_≤_}
+use mathlib.Core.List.{List}
+use Prim.Native.Nat.{ℕ, _≤_}
 use native.Mathlib.Omega.{arith}
 use lib.ListN.{length}
 use Rattle.paper.specs.Refusals.{longest}
@@ -9,10 +10,17 @@ use Rattle.variables.specs.declared.Checked.{Checked}
 use Rattle.variables.specs.Judgements.{judgedBy}
 use Rattle.variables.proofs.KeysFind.{lines-inside, all-lines}
 use Rattle.expressions.specs.Answers.{readingOf, valueIn, evaluatedBy, evaluatedOver, evaluated}
+use Rattle.expressions.specs.declared.Evaluated.{Evaluated}
 use Rattle.expressions.proofs.Orders.{too-long, over}
 use borrow.Author.Needs.{needs}
 use Rattle.expressions.proofs.evaluate.Statement.{statement}
 use Rattle.expressions.proofs.evaluate.Tie as tie
+
+-- the reading of a text over a good table, its allowance capped
+over-good : (text table : List ℕ) (allowance left : ℕ) (r : Evaluated) → r ≡ evaluatedBy (run (readingOf text table) left) (valueIn text table)
+    → left ≡ allowed allowance → evaluatedBy (run (readingOf text table) (allowed allowance)) (valueIn text table) ≡ evaluated text table allowance
+    → r ≡ evaluated text table allowance
+over-good text table allowance left r e capped decides = e ∙ ap (λ n. evaluatedBy (run (readingOf text table) n) (valueIn text table)) capped ∙ decides
 
 -- where the table is checked
 module _ (c : tie.After-key-table) where
@@ -70,9 +78,8 @@ returns-3 c =
     let k = c .before .before .before .before in
     let t = k .before .before .before .before .before in
     let a = start t .args in
-    c .evaluate-over .ensures
-    ∙ ap (λ n. evaluatedBy (run (readingOf (a .text .now) (a .table .now)) n) (valueIn (a .text .now) (a .table .now))) (c .before .before .cap .ensures .0)
-    ∙ decided t (omega arith) (k .checked2 .given .1)
+    over-good (a .text .now) (a .table .now) (a .allowance) _ _ (c .evaluate-over .ensures) (c .before .before .cap .ensures .0)
+    (decided t (omega arith) (k .checked2 .given .1))
 
 pub evaluate-spec : {M : Type 1} → statement M
 evaluate-spec =

@@ -210,9 +210,9 @@ term-loop-less t c =
 term-loop-again : (t : ℕ) → term-lts.Need-loop-again (term-calls t) (term-at t) term.Post term-Inv-loop term-μ-loop
 term-loop-again t c =
     let a = c .before .before .before .before .before .before .before .before .before .before .before .before .args in
-    λ account e. goes-on (namesOf (a .table .now)) (a .text .now) 0 (a .levels) account (a .at) (c .before .before .before .before .operator .given .0 .0) (c .before .before .before .before .operator .given .0 .1 .0) (c .before .before .before .before .operator .given .0 .1 .1 .0) (c .before .before .before .before .before .before .before .loop .lhs) _ _ (c .before .before .before .before .before .before .before .loop .inv account e)
+    λ account e. goes-on (namesOf (a .table .now)) (a .text .now) 0 (a .levels) account (a .at) (c .before .before .before .before .operator .given .0 .0) (c .before .before .before .before .operator .given .0 .1 .0) (c .before .before .before .before .operator .given .0 .1 .1 .0) (c .before .before .before .before .before .before .before .loop .lhs) _ _ _ (c .before .before .before .before .before .before .before .loop .inv account e)
     (sym (c .before .before .before .before .before .before .operator-behind .ensures) ∙ ap linkOf (c .before .before .before .before .operator .given .1))
-    (c .before .operand2 .ensures ∙ ap (λ x. partOf (namesOf (a .table .now)) x (levelAt (a .text .now) 0 (operandAt (a .text .now) (a .levels)) (c .before .before .before .before .operator .given .0 .1 .1 .0))) (c .before .before .account-of .ensures)) (c .joined .ensures)
+    (c .before .before .account-of .ensures) (c .before .operand2 .ensures) (c .joined .ensures)
 
 abbrev sum-Inv-loop : sum-lts.InvT-loop
 sum-Inv-loop text table keys levels at lhs₀ lhs =
@@ -261,9 +261,9 @@ sum-loop-less t c =
 sum-loop-again : (t : ℕ) → sum-lts.Need-loop-again (sum-calls t) (sum-at t) sum.Post sum-Inv-loop sum-μ-loop
 sum-loop-again t c =
     let a = c .before .before .before .before .before .before .before .before .before .before .before .before .args in
-    λ account e. goes-on (namesOf (a .table .now)) (a .text .now) 1 (a .levels) account (a .at) (c .before .before .before .before .operator .given .0 .0) (c .before .before .before .before .operator .given .0 .1 .0) (c .before .before .before .before .operator .given .0 .1 .1 .0) (c .before .before .before .before .before .before .before .loop .lhs) _ _ (c .before .before .before .before .before .before .before .loop .inv account e)
+    λ account e. goes-on (namesOf (a .table .now)) (a .text .now) 1 (a .levels) account (a .at) (c .before .before .before .before .operator .given .0 .0) (c .before .before .before .before .operator .given .0 .1 .0) (c .before .before .before .before .operator .given .0 .1 .1 .0) (c .before .before .before .before .before .before .before .loop .lhs) _ _ _ (c .before .before .before .before .before .before .before .loop .inv account e)
     (sym (c .before .before .before .before .before .before .operator-behind .ensures) ∙ ap linkOf (c .before .before .before .before .operator .given .1))
-    (c .before .term2 .ensures ∙ ap (λ x. partOf (namesOf (a .table .now)) x (levelAt (a .text .now) 1 (operandAt (a .text .now) (a .levels)) (c .before .before .before .before .operator .given .0 .1 .1 .0))) (c .before .before .account-of .ensures)) (c .joined .ensures)
+    (c .before .before .account-of .ensures) (c .before .term2 .ensures) (c .joined .ensures)
 
 abbrev relation-Inv-loop : relation-lts.InvT-loop
 relation-Inv-loop text table keys levels at lhs₀ lhs =
@@ -312,9 +312,9 @@ relation-loop-less t c =
 relation-loop-again : (t : ℕ) → relation-lts.Need-loop-again (relation-calls t) (relation-at t) relation.Post relation-Inv-loop relation-μ-loop
 relation-loop-again t c =
     let a = c .before .before .before .before .before .before .before .before .before .before .before .before .args in
-    λ account e. goes-on (namesOf (a .table .now)) (a .text .now) 2 (a .levels) account (a .at) (c .before .before .before .before .operator .given .0 .0) (c .before .before .before .before .operator .given .0 .1 .0) (c .before .before .before .before .operator .given .0 .1 .1 .0) (c .before .before .before .before .before .before .before .loop .lhs) _ _ (c .before .before .before .before .before .before .before .loop .inv account e)
+    λ account e. goes-on (namesOf (a .table .now)) (a .text .now) 2 (a .levels) account (a .at) (c .before .before .before .before .operator .given .0 .0) (c .before .before .before .before .operator .given .0 .1 .0) (c .before .before .before .before .operator .given .0 .1 .1 .0) (c .before .before .before .before .before .before .before .loop .lhs) _ _ _ (c .before .before .before .before .before .before .before .loop .inv account e)
     (sym (c .before .before .before .before .before .before .operator-behind .ensures) ∙ ap linkOf (c .before .before .before .before .operator .given .1))
-    (c .before .sum2 .ensures ∙ ap (λ x. partOf (namesOf (a .table .now)) x (levelAt (a .text .now) 2 (operandAt (a .text .now) (a .levels)) (c .before .before .before .before .operator .given .0 .1 .1 .0))) (c .before .before .account-of .ensures)) (c .joined .ensures)
+    (c .before .before .account-of .ensures) (c .before .sum2 .ensures) (c .joined .ensures)
 
 abbrev conjunction-Inv-loop : conjunction-lts.InvT-loop
 conjunction-Inv-loop text table keys levels at lhs₀ lhs =
@@ -363,9 +363,9 @@ conjunction-loop-less t c =
 conjunction-loop-again : (t : ℕ) → conjunction-lts.Need-loop-again (conjunction-calls t) (conjunction-at t) conjunction.Post conjunction-Inv-loop conjunction-μ-loop
 conjunction-loop-again t c =
     let a = c .before .before .before .before .before .before .before .before .before .before .before .before .args in
-    λ account e. goes-on (namesOf (a .table .now)) (a .text .now) 3 (a .levels) account (a .at) (c .before .before .before .before .operator .given .0 .0) (c .before .before .before .before .operator .given .0 .1 .0) (c .before .before .before .before .operator .given .0 .1 .1 .0) (c .before .before .before .before .before .before .before .loop .lhs) _ _ (c .before .before .before .before .before .before .before .loop .inv account e)
+    λ account e. goes-on (namesOf (a .table .now)) (a .text .now) 3 (a .levels) account (a .at) (c .before .before .before .before .operator .given .0 .0) (c .before .before .before .before .operator .given .0 .1 .0) (c .before .before .before .before .operator .given .0 .1 .1 .0) (c .before .before .before .before .before .before .before .loop .lhs) _ _ _ (c .before .before .before .before .before .before .before .loop .inv account e)
     (sym (c .before .before .before .before .before .before .operator-behind .ensures) ∙ ap linkOf (c .before .before .before .before .operator .given .1))
-    (c .before .relation2 .ensures ∙ ap (λ x. partOf (namesOf (a .table .now)) x (levelAt (a .text .now) 3 (operandAt (a .text .now) (a .levels)) (c .before .before .before .before .operator .given .0 .1 .1 .0))) (c .before .before .account-of .ensures)) (c .joined .ensures)
+    (c .before .before .account-of .ensures) (c .before .relation2 .ensures) (c .joined .ensures)
 
 abbrev disjunction-Inv-loop : disjunction-lts.InvT-loop
 disjunction-Inv-loop text table keys levels at lhs₀ lhs =
@@ -414,9 +414,9 @@ disjunction-loop-less t c =
 disjunction-loop-again : (t : ℕ) → disjunction-lts.Need-loop-again (disjunction-calls t) (disjunction-at t) disjunction.Post disjunction-Inv-loop disjunction-μ-loop
 disjunction-loop-again t c =
     let a = c .before .before .before .before .before .before .before .before .before .before .before .before .args in
-    λ account e. goes-on (namesOf (a .table .now)) (a .text .now) 4 (a .levels) account (a .at) (c .before .before .before .before .operator .given .0 .0) (c .before .before .before .before .operator .given .0 .1 .0) (c .before .before .before .before .operator .given .0 .1 .1 .0) (c .before .before .before .before .before .before .before .loop .lhs) _ _ (c .before .before .before .before .before .before .before .loop .inv account e)
+    λ account e. goes-on (namesOf (a .table .now)) (a .text .now) 4 (a .levels) account (a .at) (c .before .before .before .before .operator .given .0 .0) (c .before .before .before .before .operator .given .0 .1 .0) (c .before .before .before .before .operator .given .0 .1 .1 .0) (c .before .before .before .before .before .before .before .loop .lhs) _ _ _ (c .before .before .before .before .before .before .before .loop .inv account e)
     (sym (c .before .before .before .before .before .before .operator-behind .ensures) ∙ ap linkOf (c .before .before .before .before .operator .given .1))
-    (c .before .conjunction2 .ensures ∙ ap (λ x. partOf (namesOf (a .table .now)) x (levelAt (a .text .now) 4 (operandAt (a .text .now) (a .levels)) (c .before .before .before .before .operator .given .0 .1 .1 .0))) (c .before .before .account-of .ensures)) (c .joined .ensures)
+    (c .before .before .account-of .ensures) (c .before .conjunction2 .ensures) (c .joined .ensures)
 
 abbrev operand-calls : ℕ → operand-lts.Claims
 operand-calls t = (
