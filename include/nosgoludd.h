@@ -5,22 +5,21 @@
  * conversion cut it, and the rows behind it were never seen. So a conversion or a translation comes whole, or it is refused and
  * writes nothing, and where room was all it lacked the refusal carries the need: ask again with that room.
  *
- * Link libnosgoludd.a: x86-64 Linux, and all it needs is the C library's memcpy. The functions are proved to give these answers
- * for every input. They keep nothing between calls, allocate nothing and always return, so threads may call them at once.
+ * Link libnosgoludd.a: x86-64 Linux, and all it needs is memcpy and memset of the C library. The functions are proved to give
+ * these answers for every input. They keep nothing between calls, allocate nothing and always return, so threads may call them at
+ * once. A call takes at most NOS_STACK bytes of stack.
  *
  * What the proof asks of you: a pointer points to as many bytes as the room or length behind it says, which may be read, and for
  * buf and out written. Nothing else (a thread, a shared mapping) writes any of them before the call returns, nor reads those of
  * buf and out; out overlaps neither text nor table. With a room or a length of 0 the pointer is not used and may be NULL: the
  * compiled code was looked at for that, and examples/c runs every one so.
  *
- * THE ANSWER is one number, so that a refusal writes nothing anywhere:
+ * What no proof can ask for you: give the true length of a text or a table, as long as it is. What is over 65,535 bytes is refused,
+ * by 18. A length that you clamp to 65,535 makes the library read a cut text as if it were whole.
  *
- *   bits 0 to 7     nos_number    the refusal number; 0: accepted
- *   bits 8 to 15    nos_counted   what the place is counted in: 1 the table; 0 the text, for nos_convert buf
- *   bits 16 to 31   nos_place     the place
- *   bits 32 to 63   nos_need      nos_convert and nos_translate: the need
- *                   nos_value     nos_read_unsigned: the value; nos_check_table: the number of records; nos_look_up: the kind;
- *                                 nos_evaluate: the value's pattern, which nos_signed gives as a number
+ * THE ANSWER is a struct that the function returns, so that a refusal writes nothing anywhere. `number` is 0 where accepted, and
+ * else that of the refusal; nos_words has it in words. A place is counted in bytes from 0, and `counted` says in what. Where
+ * refused, a field beside number, counted and place is 0, but for `free`, and for the `need` of 1.
  *
  * &D0 is 0xD0, as the RISC OS manual writes it.
  */
@@ -59,7 +58,68 @@ enum nos_refusal {
     NOS_OVER_LENGTH = 18
 };
 
+/* A refusal in words. */
+static inline const char *nos_words(uint32_t number)
+{
+    static const char *const words[] = {
+        "Accepted",
+        "No room",
+        "Bad number: no digit",
+        "Bad base",
+        "Too big: over 4,294,967,295",
+        "Not ended",
+        "Over the caller's limit",
+        "Bad code",
+        "Bad string",
+        "Bad reference",
+        "Unknown name",
+        "Too deep",
+        "Allowance spent",
+        "Bad table",
+        "Unknown call",
+        "Bad expression",
+        "Zero divisor",
+        "Not an integer variable",
+        "Text or table over 65,535 bytes",
+    };
+    return number < sizeof words / sizeof words[0] ? words[number] : "No such refusal";
+}
+
+/* What a place is counted in. Where a struct has no `counted` there is but one thing that it can be. */
 enum nos_counting { NOS_IN_THE_TEXT = 0, NOS_IN_THE_TABLE = 1 };
+
+/* Of nos_convert and nos_translate. */
+struct nos_answer {
+    uint32_t number, counted;
+    size_t place, need, free;
+};
+
+/* Of nos_read_unsigned; the place is counted in the text. */
+struct nos_number {
+    uint32_t number, value;
+    size_t place;
+};
+
+/* Of nos_check_table; the place is counted in the table. */
+struct nos_checked {
+    uint32_t number, records;
+    size_t place;
+};
+
+/* Of nos_look_up. */
+struct nos_variable {
+    uint32_t number, counted;
+    size_t place;
+    uint32_t kind, length;
+    size_t start;
+};
+
+/* Of nos_evaluate. */
+struct nos_value {
+    uint32_t number, counted;
+    size_t place;
+    int32_t value;
+};
 
 /* The calls. The number in a name is that of the digits for hex, and of the low bytes that are used for the others. */
 enum nos_call {
@@ -87,20 +147,21 @@ enum nos_call {
  * Spaced: one space between groups of three digits counted from the right, none behind a minus: -2 147 483 648.
  * Bit 17 of the call (0x20000, the X form) makes no difference; every other number is an unknown call.
  *
- * The need is the string's length plus 1, for the zero byte.
- *   accepted   place: the offset of the zero byte, so the need is one more. Bytes of buf behind the zero byte stay as they were.
- *   refused    place 0, and every byte of buf stays as it was. The first of these that holds:
+ *   accepted   place: the offset of the zero byte in buf. need: the bytes written, the zero byte with them, so one more than the place.
+ *              free: room - place, so the zero byte counts as free. Bytes of buf behind the zero byte stay as they were
+ *   refused    place 0, free: the room, and every byte of buf stays as it was. The first of these that holds:
  *              14 NOS_UNKNOWN_CALL   need 0, at any room
- *               1 NOS_NO_ROOM        the room is less than the need, and the need is in the answer
- * Free is room - place where accepted, and room where refused: the zero byte counts as free.
+ *               1 NOS_NO_ROOM        the room is less than the need, which is in the answer
+ * counted is always 0.
  *
  *   nos_convert(NOS_UNSIGNED_4, 1048576, buf, 8)    "1048576", place 7, need 8, free 1
  *   nos_convert(NOS_UNSIGNED_4, 1048576, buf, 7)    refused 1, need 8, free 7, buf as it was
  *   nos_convert(NOS_SIGNED_1, 128, NULL, 0)         refused 1, need 5: the room for "-128"
  *   nos_convert(NOS_UNSIGNED_1, 1048576, buf, 2)    "0": the low byte alone is used
  */
-uint64_t nos_convert(uint32_t call, uint32_t value, uint8_t *buf, size_t room);
+struct nos_answer nos_convert(uint32_t call, uint32_t value, uint8_t *buf, size_t room);
 
+#define NOS_STACK 49152u          /* the most bytes of stack that a call takes */
 #define NOS_LONGEST 65535u        /* the longest text or table that is read, in bytes */
 #define NOS_NO_LIMIT 4294967295u  /* a limit that refuses nothing */
 
@@ -116,7 +177,7 @@ uint64_t nos_convert(uint32_t call, uint32_t value, uint8_t *buf, size_t room);
  *   whole    0: off. Any other number: the byte behind the number must be at most 32, or the text must end there.
  *   limit    the largest value that is accepted
  *
- *   accepted   the value, and the place of the first byte not read
+ *   accepted   value, and place: that of the first byte not read
  *   refused    value 0. The first of these that holds; the number's start is the first byte behind the spaces:
  *              18 NOS_OVER_LENGTH   the text is longer than 65,535 bytes; place 0
  *               3 NOS_BAD_BASE      the base is not 2 to 36, with any number of digits; the number's start
@@ -131,7 +192,7 @@ uint64_t nos_convert(uint32_t call, uint32_t value, uint8_t *buf, size_t room);
  *   12kg          12 at 2            12kg, whole     refused 5 at 2
  *   4294967295    itself, at 10      4294967296      refused 4 at 0
  */
-uint64_t nos_read_unsigned(const uint8_t *text, size_t length, uint32_t whole, uint32_t limit);
+struct nos_number nos_read_unsigned(const uint8_t *text, size_t length, uint32_t whole, uint32_t limit);
 
 enum nos_kind { NOS_STRING = 0, NOS_INTEGER = 1, NOS_MACRO = 2 };
 
@@ -143,24 +204,24 @@ enum nos_kind { NOS_STRING = 0, NOS_INTEGER = 1, NOS_MACRO = 2 };
  * 60 or 62; value bytes are free. Names are equal when they differ at most in the case of A to Z; no two records have equal names.
  * At most 256 records; no record at all is good too.
  *
- *   accepted   the number of records; place 0
- *   refused    value 0. The first of these that holds:
+ *   accepted   records: how many there are; place 0
+ *   refused    records 0. The first of these that holds:
  *              18 NOS_OVER_LENGTH   the table is longer than 65,535 bytes; place 0
  *              13 NOS_BAD_TABLE     where the first bad record starts. Of two equal names the later one is bad, and so is a record
  *                                   that the table's end cuts off, and anything behind 256 records
- * Every place is counted in the table, that of an accepted one too.
  */
-uint64_t nos_check_table(const uint8_t *table, size_t length);
+struct nos_checked nos_check_table(const uint8_t *table, size_t length);
 
 /* Looks a name up in a table. The whole table is checked first. The name may be any bytes, and any number of them.
  *
- *   accepted   the record's place (that of its mark), and its kind. Its value lies at place + 5 + table[place + 3], and has
- *              table[place + 4] bytes, all of them inside the table
- *   refused    value 0: 18 and 13 as by nos_check_table, then
- *              10 NOS_UNKNOWN_NAME   no record has an equal name; place 0
- * Every place is counted in the table, that of 10 too.
+ *   accepted   place: that of the record, its mark's first byte, and counted NOS_IN_THE_TABLE. kind: one of enum nos_kind. The
+ *              value is the `length` bytes from `start` on, all of them inside the table
+ *   refused    kind, length and start 0. The first of these that holds:
+ *              18 NOS_OVER_LENGTH    as by nos_check_table, counted in the table
+ *              13 NOS_BAD_TABLE      as by nos_check_table, counted in the table
+ *              10 NOS_UNKNOWN_NAME   no record has an equal name; place 0, counted 0
  */
-uint64_t nos_look_up(const uint8_t *table, size_t length, const uint8_t *name, size_t name_length);
+struct nos_variable nos_look_up(const uint8_t *name, size_t name_length, const uint8_t *table, size_t table_length);
 
 /* The flags of a text. Other bits count for nothing. */
 #define NOS_SPACE_ENDS (1u << 29)   /* a space behind the leading ones and outside quotes ends the text */
@@ -193,9 +254,9 @@ uint64_t nos_look_up(const uint8_t *table, size_t length, const uint8_t *name, s
  *   allowance   how many look-ups; over 1,024 counts as 1,024
  *
  * The need is the number of bytes given. It is at most 323,583: a name takes 3 bytes of text or more, and adds 255 or fewer.
- *   accepted   the place of the text's end: behind all spaces that were skipped, or that of the space that ended it. Bytes of out
- *              behind the need stay as they were.
- *   refused    every byte of out stays as it was; need 0 except for 1. The first of these that holds:
+ *   accepted   place: the text's end, behind all spaces that were skipped, or that of the space that ended it. need, and free: room -
+ *              need. Bytes of out behind the need stay as they were
+ *   refused    every byte of out stays as it was; need 0 except for 1; free: the room. The first of these that holds:
  *              18 NOS_OVER_LENGTH       the text is longer than 65,535 bytes; place 0
  *              18 NOS_OVER_LENGTH       the table is; place 0, counted in the table
  *              13 NOS_BAD_TABLE         as by nos_check_table, the place counted in the table
@@ -208,10 +269,10 @@ uint64_t nos_look_up(const uint8_t *table, size_t length, const uint8_t *name, s
  *               7 NOS_BAD_CODE          the "|", of "|!|" the first
  *               8 NOS_BAD_STRING        the text ends in the quotes: the open quote; it goes on behind them: the byte there
  *                 and last:
- *               1 NOS_NO_ROOM           the room is less than the need, and the need is in the answer; place 0
+ *               1 NOS_NO_ROOM           the room is less than the need, which is in the answer; place 0
  *              At one reference 9, 4, 10, 11, 12 come in this order. A refusal inside a macro has its own number, and the place of
  *              the "<" in your text that led there.
- * Free is room - need where accepted, and room where refused.
+ * counted is 0 but where the table is named.
  *
  * With a string a, the byte x, and a macro m, the bytes <A>| and no more; with no flags, allowance 2 and room 2:
  *   <A>b         xb, place 4, need 2, free 0              b<m>           refused 7 at 1, for the bar in the macro
@@ -221,8 +282,8 @@ uint64_t nos_look_up(const uint8_t *table, size_t length, const uint8_t *name, s
  *   "b"  c       refused 8 at 5; with NOS_SPACE_ENDS      a<             refused 9 at 1
  *                b, place 3, need 1, free 1               <A>bc          refused 1, need 3, free 2, out as it was
  */
-uint64_t nos_translate(const uint8_t *text, size_t length, const uint8_t *table, size_t table_length, uint32_t flags,
-                       uint32_t allowance, uint8_t *out, size_t room);
+struct nos_answer nos_translate(const uint8_t *text, size_t length, const uint8_t *table, size_t table_length, uint32_t flags,
+                                uint32_t allowance, uint8_t *out, size_t room);
 
 /* Evaluates an expression of signed 32-bit numbers.
  *
@@ -243,7 +304,7 @@ uint64_t nos_translate(const uint8_t *text, size_t length, const uint8_t *table,
  *
  * A name must be an integer variable of the table, and takes one look-up out of the allowance; over 1,024 counts as 1,024.
  *
- *   accepted   the value's 32-bit pattern, and the place of the text's end, behind all spaces
+ *   accepted   value, and place: the text's end, behind all spaces
  *   refused    value 0. The first of these that holds:
  *              18 NOS_OVER_LENGTH       the text is longer than 65,535 bytes; place 0
  *              18 NOS_OVER_LENGTH       the table is; place 0, counted in the table
@@ -265,14 +326,7 @@ uint64_t nos_translate(const uint8_t *text, size_t length, const uint8_t *table,
  *   1=1=1          0 at 5                  12abc     refused 15 at 2
  *   -8>>1          -4 at 5                 &         refused 2 at 1
  */
-uint64_t nos_evaluate(const uint8_t *text, size_t length, const uint8_t *table, size_t table_length, uint32_t allowance);
-
-static inline uint32_t nos_number(uint64_t answer) { return (uint32_t)(answer & 0xFF); }
-static inline uint32_t nos_counted(uint64_t answer) { return (uint32_t)(answer >> 8 & 0xFF); }
-static inline size_t nos_place(uint64_t answer) { return (size_t)(answer >> 16 & 0xFFFF); }
-static inline size_t nos_need(uint64_t answer) { return (size_t)(answer >> 32); }
-static inline uint32_t nos_value(uint64_t answer) { return (uint32_t)(answer >> 32); }
-static inline int64_t nos_signed(uint64_t answer) { return (int64_t)nos_value(answer) - (nos_value(answer) >> 31 ? 4294967296 : 0); }
+struct nos_value nos_evaluate(const uint8_t *text, size_t length, const uint8_t *table, size_t table_length, uint32_t allowance);
 
 #ifdef __cplusplus
 }

@@ -3,7 +3,7 @@
  * Whatever is lent is watched. A slice stands, in turn, between known bytes, or at the start or the end of an area where an
  * unreadable page begins: a byte read or written there ends this program. An answer has " touched" behind it where a byte changed
  * that must not: in a text or a table, beside a slice, in a buffer behind what was written, or anywhere in one after a refusal. It
- * has " odd" behind it where a part of the 64-bit answer that the line does not show is not as the header says. */
+ * has " odd" behind it where a field of the answer that the line does not show is not as the header says. */
 #define _GNU_SOURCE
 #include <inttypes.h>
 #include <stdbool.h>
@@ -167,18 +167,18 @@ static bool conv(struct line line)
     uint32_t call = take_number(&line), value = take_number(&line), room = take_number(&line);
     if (!is_done(&line) || room > MOST_ROOM) return false;
     lend(&buffer, room);
-    uint64_t answer = nos_convert(call, value, lent_by(&buffer), room);
-    size_t place = nos_place(answer), need = nos_need(answer);
-    if (nos_number(answer) != NOS_ACCEPTED) {
-        printf("no %" PRIu32 " %zu %zu %" PRIu32, nos_number(answer), place, need, room);
-        return end_line(is_whole_behind(&buffer, 0), nos_counted(answer) == NOS_IN_THE_TEXT);
+    struct nos_answer answer = nos_convert(call, value, lent_by(&buffer), room);
+    bool as_said = answer.counted == NOS_IN_THE_TEXT;
+    if (answer.number != NOS_ACCEPTED) {
+        printf("no %" PRIu32 " %zu %zu %zu", answer.number, answer.place, answer.need, answer.free);
+        return end_line(is_whole_behind(&buffer, 0), as_said);
     }
-    if (place >= room) return end_line(false, false);
+    if (answer.place >= room) return end_line(false, false);
     printf("ok ");
-    put_hex(buffer.lent, place);
-    printf(" %zu %zu", place, room - place);
-    return end_line(is_whole_behind(&buffer, place + 1),
-                    buffer.lent[place] == 0 && need == place + 1 && nos_counted(answer) == NOS_IN_THE_TEXT);
+    put_hex(buffer.lent, answer.place);
+    printf(" %zu %zu", answer.place, answer.free);
+    as_said = as_said && buffer.lent[answer.place] == 0 && answer.need == answer.place + 1;
+    return end_line(is_whole_behind(&buffer, answer.place + 1), as_said);
 }
 
 static bool read_number(struct line line)
@@ -187,55 +187,63 @@ static bool read_number(struct line line)
     take_bytes(&line, &text);
     uint32_t whole = take_number(&line), limit = take_limit(&line);
     if (!is_done(&line) || whole > 1) return false;
-    uint64_t answer = nos_read_unsigned(lent_by(&text), text.length, whole ? other_than_0[turn % 3] : 0, limit);
-    bool as_said = nos_counted(answer) == NOS_IN_THE_TEXT;
-    if (nos_number(answer) == NOS_ACCEPTED) {
-        printf("val %" PRIu32 " %zu", nos_value(answer), nos_place(answer));
-    } else {
-        printf("no %" PRIu32 " %zu", nos_number(answer), nos_place(answer));
-        as_said = as_said && nos_value(answer) == 0;
+    struct nos_number answer = nos_read_unsigned(lent_by(&text), text.length, whole ? other_than_0[turn % 3] : 0, limit);
+    if (answer.number == NOS_ACCEPTED) {
+        printf("val %" PRIu32 " %zu", answer.value, answer.place);
+        return end_line(is_whole(&text), true);
     }
-    return end_line(is_whole(&text), as_said);
+    printf("no %" PRIu32 " %zu", answer.number, answer.place);
+    return end_line(is_whole(&text), answer.value == 0);
 }
 
 static bool check(struct line line)
 {
     take_bytes(&line, &table);
     if (!is_done(&line)) return false;
-    uint64_t answer = nos_check_table(lent_by(&table), table.length);
-    bool as_said = nos_counted(answer) == NOS_IN_THE_TABLE;
-    if (nos_number(answer) == NOS_ACCEPTED) {
-        printf("ok %" PRIu32, nos_value(answer));
-        as_said = as_said && nos_place(answer) == 0;
-    } else {
-        printf("no %" PRIu32 " %zu", nos_number(answer), nos_place(answer));
-        as_said = as_said && nos_value(answer) == 0;
+    struct nos_checked answer = nos_check_table(lent_by(&table), table.length);
+    if (answer.number == NOS_ACCEPTED) {
+        printf("ok %" PRIu32, answer.records);
+        return end_line(is_whole(&table), answer.place == 0);
     }
-    return end_line(is_whole(&table), as_said);
+    printf("no %" PRIu32 " %zu", answer.number, answer.place);
+    return end_line(is_whole(&table), answer.records == 0);
+}
+
+/* Whether a variable that was found has its value where its record says. */
+static bool is_in_its_record(struct nos_variable found)
+{
+    if (found.counted != NOS_IN_THE_TABLE || found.place + 5 > table.length) return false;
+    const uint8_t *record = table.lent + found.place;
+    return found.start == found.place + 5 + record[3] && found.length == record[4] && found.start + found.length <= table.length;
 }
 
 /* The line does not tell a bad table from an unknown name; the answer does. */
+static bool is_not_found(struct nos_variable answer)
+{
+    struct nos_checked checked = nos_check_table(lent_by(&table), table.length);
+    bool good = checked.number == NOS_ACCEPTED;
+    if (answer.kind != 0 || answer.length != 0 || answer.start != 0 || answer.place != checked.place) return false;
+    return answer.number == (good ? (uint32_t)NOS_UNKNOWN_NAME : checked.number)
+        && answer.counted == (good ? NOS_IN_THE_TEXT : NOS_IN_THE_TABLE);
+}
+
 static bool look(struct line line)
 {
     take_bytes(&line, &table);
     take_bytes(&line, &text);
     if (!is_done(&line)) return false;
-    uint64_t answer = nos_look_up(lent_by(&table), table.length, lent_by(&text), text.length);
-    uint64_t checked = nos_check_table(lent_by(&table), table.length);
-    bool as_said = nos_counted(answer) == NOS_IN_THE_TABLE;
-    if (nos_number(answer) == NOS_ACCEPTED) {
-        size_t place = nos_place(answer), length = table.lent[place + 4];
-        printf("rec %zu %" PRIu32 " ", place, nos_value(answer));
-        put_hex(table.lent + place + 5 + table.lent[place + 3], length);
-    } else {
+    struct nos_variable answer = nos_look_up(lent_by(&text), text.length, lent_by(&table), table.length);
+    bool as_said = answer.number == NOS_ACCEPTED ? is_in_its_record(answer) : is_not_found(answer);
+    if (answer.number != NOS_ACCEPTED) {
         printf("none");
-        uint64_t unknown = NOS_UNKNOWN_NAME | NOS_IN_THE_TABLE << 8;
-        as_said = answer == (nos_number(checked) == NOS_ACCEPTED ? unknown : checked);
+    } else {
+        printf("rec %zu %" PRIu32 " ", answer.place, answer.kind);
+        if (as_said) put_hex(table.lent + answer.start, answer.length);
     }
     return end_line(is_whole(&table) && is_whole(&text), as_said);
 }
 
-static char counted_in(uint64_t answer) { return nos_counted(answer) == NOS_IN_THE_TABLE ? 'r' : 't'; }
+static char counted_in(uint32_t counted) { return counted == NOS_IN_THE_TABLE ? 'r' : 't'; }
 
 static bool trans(struct line line)
 {
@@ -244,18 +252,18 @@ static bool trans(struct line line)
     uint32_t flags = take_number(&line), allowance = take_number(&line), room = take_number(&line);
     if (!is_done(&line) || room > MOST_ROOM) return false;
     lend(&buffer, room);
-    uint64_t answer = nos_translate(lent_by(&text), text.length, lent_by(&table), table.length, flags, allowance, lent_by(&buffer),
-                                    room);
-    size_t place = nos_place(answer), need = nos_need(answer), written = 0;
-    bool as_said = nos_counted(answer) <= NOS_IN_THE_TABLE;
-    if (nos_number(answer) == NOS_ACCEPTED) {
-        written = need <= room ? need : room;
+    struct nos_answer answer = nos_translate(lent_by(&text), text.length, lent_by(&table), table.length, flags, allowance,
+                                             lent_by(&buffer), room);
+    size_t written = 0;
+    bool as_said = answer.counted <= NOS_IN_THE_TABLE;
+    if (answer.number == NOS_ACCEPTED) {
+        written = answer.need <= room ? answer.need : room;
         printf("ok ");
         put_hex(buffer.lent, written);
-        printf(" %zu %zu %zu", place, need, room - written);
-        as_said = nos_counted(answer) == NOS_IN_THE_TEXT;
+        printf(" %zu %zu %zu", answer.place, answer.need, answer.free);
+        as_said = answer.counted == NOS_IN_THE_TEXT;
     } else {
-        printf("no %" PRIu32 " %c %zu %zu %" PRIu32, nos_number(answer), counted_in(answer), place, need, room);
+        printf("no %" PRIu32 " %c %zu %zu %zu", answer.number, counted_in(answer.counted), answer.place, answer.need, answer.free);
     }
     return end_line(is_whole(&text) && is_whole(&table) && is_whole_behind(&buffer, written), as_said);
 }
@@ -266,14 +274,14 @@ static bool eval(struct line line)
     take_bytes(&line, &table);
     uint32_t allowance = take_number(&line);
     if (!is_done(&line)) return false;
-    uint64_t answer = nos_evaluate(lent_by(&text), text.length, lent_by(&table), table.length, allowance);
-    bool as_said = nos_counted(answer) <= NOS_IN_THE_TABLE;
-    if (nos_number(answer) == NOS_ACCEPTED) {
-        printf("val %" PRId64 " %zu", nos_signed(answer), nos_place(answer));
-        as_said = nos_counted(answer) == NOS_IN_THE_TEXT;
+    struct nos_value answer = nos_evaluate(lent_by(&text), text.length, lent_by(&table), table.length, allowance);
+    bool as_said = answer.counted <= NOS_IN_THE_TABLE;
+    if (answer.number == NOS_ACCEPTED) {
+        printf("val %" PRId32 " %zu", answer.value, answer.place);
+        as_said = answer.counted == NOS_IN_THE_TEXT;
     } else {
-        printf("no %" PRIu32 " %c %zu", nos_number(answer), counted_in(answer), nos_place(answer));
-        as_said = as_said && nos_value(answer) == 0;
+        printf("no %" PRIu32 " %c %zu", answer.number, counted_in(answer.counted), answer.place);
+        as_said = as_said && answer.value == 0;
     }
     return end_line(is_whole(&text) && is_whole(&table), as_said);
 }

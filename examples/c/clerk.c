@@ -21,30 +21,9 @@ void check(int holds, const char *claim)
     exit(1);
 }
 
-const char *in_words(uint64_t answer)
+int alike(struct nos_answer one, struct nos_answer other)
 {
-    switch (nos_number(answer)) {
-    case NOS_NO_ROOM: return "no room";
-    case NOS_NO_DIGIT: return "a digit is wanted there";
-    case NOS_BAD_BASE: return "a base is 2 to 36";
-    case NOS_TOO_BIG: return "over 4294967295";
-    case NOS_NOT_ENDED: return "the number goes on";
-    case NOS_OVER_LIMIT: return "over the limit";
-    case NOS_BAD_CODE: return "no such code";
-    case NOS_BAD_STRING: return "the quotes go wrong there";
-    case NOS_BAD_REFERENCE: return "not a whole reference";
-    case NOS_UNKNOWN_NAME: return "unknown name";
-    case NOS_TOO_DEEP: return "over 16 levels";
-    case NOS_ALLOWANCE_SPENT: return "the allowance is spent";
-    case NOS_BAD_TABLE: return "a bad record";
-    case NOS_UNKNOWN_CALL: return "unknown call";
-    case NOS_BAD_EXPRESSION: return "that cannot stand there";
-    case NOS_ZERO_DIVISOR: return "over zero";
-    case NOS_NOT_AN_INTEGER: return "not an integer";
-    case NOS_OVER_LENGTH: return "over 65535 bytes";
-    }
-    check(0, "the six functions give no other number");
-    return "";
+    return one.number == other.number && one.counted == other.counted && one.place == other.place && one.need == other.need;
 }
 
 void fill(uint8_t *bytes, size_t size)
@@ -67,26 +46,27 @@ void check_the_rest(const uint8_t *paper, size_t size, size_t at, size_t written
 
 /* Converts into the part of a paper that starts at `at`, and checks what holds of every call: the whole string stands there with
  * its zero byte, or nothing does; and every other byte of the paper is as it was. */
-static uint64_t convert(uint32_t call, uint32_t value, uint8_t *paper, size_t size, size_t at, size_t room)
+static struct nos_answer convert(uint32_t call, uint32_t value, uint8_t *paper, size_t size, size_t at, size_t room)
 {
     remember(paper, size);
-    uint64_t answer = nos_convert(call, value, paper + at, room);
-    size_t place = nos_place(answer), need = nos_need(answer), written = 0;
-    check(nos_counted(answer) == NOS_IN_THE_TEXT, "a place is counted in the text");
-    if (nos_number(answer) == NOS_ACCEPTED) {
-        written = need;
+    struct nos_answer answer = nos_convert(call, value, paper + at, room);
+    size_t written = 0;
+    check(answer.counted == NOS_IN_THE_TEXT, "a conversion has nothing to do with a table");
+    if (answer.number == NOS_ACCEPTED) {
+        written = answer.need;
         check(written <= room, "no more is written than was lent");
-        check(place + 1 == need, "the need is the place and one more");
-        check(memchr(paper + at, 0, written) == paper + at + place, "the first zero byte is at the place");
+        check(answer.place + 1 == answer.need, "the need is the place and one more");
+        check(answer.free == room - answer.place, "the zero byte counts as free");
+        check(memchr(paper + at, 0, written) == paper + at + answer.place, "the first zero byte is at the place");
     } else {
-        check(place == 0, "a refused conversion has the place 0");
-        check(nos_number(answer) == NOS_NO_ROOM ? need > room : need == 0, "a need is over the room; other refusals have none");
+        check(answer.place == 0 && answer.free == room, "a refused conversion has the place 0, and the whole room is free");
+        check(answer.number == NOS_NO_ROOM ? answer.need > room : answer.need == 0, "a need is over the room; other refusals have none");
     }
     check_the_rest(paper, size, at, written);
     return answer;
 }
 
-static uint64_t on_a_clean_sheet(uint32_t call, uint32_t value, size_t room)
+static struct nos_answer on_a_clean_sheet(uint32_t call, uint32_t value, size_t room)
 {
     check(room <= SHEET, "a sheet is enough for every call");
     fill(sheet, sizeof sheet);
@@ -99,12 +79,12 @@ static const char *on_the_sheet(void) { return (const char *)sheet + MARGIN; }
 static void ask_twice(uint32_t call, uint32_t value, const char *string)
 {
     size_t little = strlen(string);
-    uint64_t refused = on_a_clean_sheet(call, value, little);
-    check(nos_number(refused) == NOS_NO_ROOM && nos_need(refused) == little + 1, "one byte too few is refused, with the need");
-    uint64_t answer = on_a_clean_sheet(call, value, nos_need(refused));
-    check(nos_number(answer) == NOS_ACCEPTED && strcmp(on_the_sheet(), string) == 0, string);
+    struct nos_answer refused = on_a_clean_sheet(call, value, little);
+    check(refused.number == NOS_NO_ROOM && refused.need == little + 1, "one byte too few is refused, with the need");
+    struct nos_answer answer = on_a_clean_sheet(call, value, refused.need);
+    check(answer.number == NOS_ACCEPTED && strcmp(on_the_sheet(), string) == 0, string);
     printf("&%02" PRIX32 " of %" PRIu32 ": room %zu, refused %" PRIu32 ", need %zu, no byte changed; room %zu: %s\n", call, value,
-           little, nos_number(refused), nos_need(refused), nos_need(refused), on_the_sheet());
+           little, refused.number, refused.need, refused.need, on_the_sheet());
 }
 
 static void conversions(void)
@@ -126,15 +106,15 @@ static void conversions(void)
 /* A call that nobody knows is refused so at every room; and no bytes lent is a NULL pointer that no one follows. */
 static void other_refusals(void)
 {
-    uint64_t with_room = on_a_clean_sheet(0xE9, 1, SHEET), without = on_a_clean_sheet(0xE9, 1, 0);
-    check(nos_number(with_room) == NOS_UNKNOWN_CALL && with_room == without, "&E9 is unknown at every room");
-    printf("&E9: refused %" PRIu32 ", %s, no byte changed\n", nos_number(without), in_words(without));
-    uint64_t asked = nos_convert(NOS_UNSIGNED_4, 1048576, NULL, 0);
-    check(nos_number(asked) == NOS_NO_ROOM && nos_need(asked) == 8, "NULL with room 0 is refused, with the need");
-    printf("no buffer: refused %" PRIu32 ", %s, need %zu\n", nos_number(asked), in_words(asked), nos_need(asked));
-    uint64_t empty = nos_read_unsigned(NULL, 0, 1, NOS_NO_LIMIT);
-    check(nos_number(empty) == NOS_NO_DIGIT && nos_place(empty) == 0, "NULL with length 0 has no digit at 0");
-    printf("no text: refused %" PRIu32 " at %zu, %s\n", nos_number(empty), nos_place(empty), in_words(empty));
+    struct nos_answer with_room = on_a_clean_sheet(0xE9, 1, SHEET), without = on_a_clean_sheet(0xE9, 1, 0);
+    check(with_room.number == NOS_UNKNOWN_CALL && alike(with_room, without), "&E9 is unknown at every room");
+    printf("&E9: refused %" PRIu32 ", %s, no byte changed\n", without.number, nos_words(without.number));
+    struct nos_answer asked = nos_convert(NOS_UNSIGNED_4, 1048576, NULL, 0);
+    check(asked.number == NOS_NO_ROOM && asked.need == 8, "NULL with room 0 is refused, with the need");
+    printf("no buffer: refused %" PRIu32 ", %s, need %zu\n", asked.number, nos_words(asked.number), asked.need);
+    struct nos_number empty = nos_read_unsigned(NULL, 0, 1, NOS_NO_LIMIT);
+    check(empty.number == NOS_NO_DIGIT && empty.place == 0, "NULL with length 0 has no digit at 0");
+    printf("no text: refused %" PRIu32 " at %zu, %s\n", empty.number, empty.place, nos_words(empty.number));
 }
 
 /* The diary's case: a quantity that does not fit the end of a page goes to the next one whole, and the rows behind it follow. */
@@ -142,33 +122,33 @@ static void across_the_page(void)
 {
     static const uint32_t quantities[] = {96, 1250, 1048576, 7, 65536};
     enum { ROWS = sizeof quantities / sizeof quantities[0] };
-    size_t place[ROWS], room[ROWS], at = MARGIN + PAGE - 15, left = 15;
+    size_t place[ROWS], length[ROWS], at = MARGIN + PAGE - 15, left = 15;
     fill(diary, sizeof diary);
     for (size_t row = 0; row < ROWS; row++) {
-        uint64_t answer = convert(NOS_UNSIGNED_4, quantities[row], diary, sizeof diary, at, left);
-        if (nos_number(answer) == NOS_NO_ROOM) {
+        struct nos_answer answer = convert(NOS_UNSIGNED_4, quantities[row], diary, sizeof diary, at, left);
+        if (answer.number == NOS_NO_ROOM) {
             check(at < MARGIN + PAGE, "a whole page is enough");
             printf("%zu bytes left on the page: %" PRIu32 " refused, need %zu, no byte changed; the next page:\n", left,
-                   quantities[row], nos_need(answer));
+                   quantities[row], answer.need);
             at = MARGIN + PAGE;
             left = PAGE;
             answer = convert(NOS_UNSIGNED_4, quantities[row], diary, sizeof diary, at, left);
         }
         char plain[SHEET];
         snprintf(plain, sizeof plain, "%" PRIu32, quantities[row]);
-        check(nos_number(answer) == NOS_ACCEPTED && strcmp((const char *)diary + at, plain) == 0, plain);
+        check(answer.number == NOS_ACCEPTED && strcmp((const char *)diary + at, plain) == 0, plain);
         printf("%zu bytes left on the page: %s\n", left, (const char *)diary + at);
         place[row] = at;
-        room[row] = left;
-        at += nos_need(answer);
-        left -= nos_need(answer);
+        length[row] = answer.need;
+        at += answer.need;
+        left -= answer.need;
     }
     check(at > MARGIN + PAGE, "a row did not fit the first page");
     for (size_t row = 0; row < ROWS; row++) {
-        /* a text has at most 65,535 bytes; the zero byte ends the number long before */
-        size_t length = room[row] < NOS_LONGEST ? room[row] : NOS_LONGEST;
-        uint64_t answer = nos_read_unsigned(diary + place[row], length, 1, NOS_NO_LIMIT);
-        check(nos_number(answer) == NOS_ACCEPTED && nos_value(answer) == quantities[row], "every row is read back");
+        /* the row's own length, with its zero byte: a page is longer than any text that is read */
+        struct nos_number answer = nos_read_unsigned(diary + place[row], length[row], 1, NOS_NO_LIMIT);
+        check(answer.number == NOS_ACCEPTED && answer.value == quantities[row], "every row is read back");
+        check(answer.place + 1 == length[row], "up to its zero byte");
     }
     printf("%d rows read back from the pages\n", ROWS);
 }
@@ -188,30 +168,30 @@ static void read_back(void)
     for (size_t c = 0; c < CALLS; c++)
         for (size_t v = 0; v < VALUES; v++) {
             char text[2 + SHEET];
-            uint64_t made = on_a_clean_sheet(calls[c].call, values[v], SHEET);
-            check(nos_number(made) == NOS_ACCEPTED, "a sheet is enough for every call");
+            struct nos_answer made = on_a_clean_sheet(calls[c].call, values[v], SHEET);
+            check(made.number == NOS_ACCEPTED, "a sheet is enough for every call");
             size_t length = (size_t)snprintf(text, sizeof text, "%s%s", calls[c].lead, on_the_sheet());
-            uint64_t answer = nos_read_unsigned((const uint8_t *)text, length, 1, NOS_NO_LIMIT);
-            check(nos_number(answer) == NOS_ACCEPTED && nos_place(answer) == length, text);
-            check(nos_value(answer) == (values[v] & calls[c].bits), text);
+            struct nos_number answer = nos_read_unsigned((const uint8_t *)text, length, 1, NOS_NO_LIMIT);
+            check(answer.number == NOS_ACCEPTED && answer.place == length, text);
+            check(answer.value == (values[v] & calls[c].bits), text);
         }
     printf("%d values written by %d calls each, and read back\n", VALUES, CALLS);
 }
 
-static uint64_t read_number(const char *text, size_t length, uint32_t whole, uint32_t limit)
+static struct nos_number read_number(const char *text, size_t length, uint32_t whole, uint32_t limit)
 {
-    uint64_t answer = nos_read_unsigned((const uint8_t *)text, length, whole, limit);
-    check(nos_counted(answer) == NOS_IN_THE_TEXT && nos_place(answer) <= length, "a place is counted in the text");
-    check(nos_number(answer) == NOS_ACCEPTED || nos_value(answer) == 0, "a refusal has no value");
+    struct nos_number answer = nos_read_unsigned((const uint8_t *)text, length, whole, limit);
+    check(answer.place <= length, "the place is in the text");
+    check(answer.number == NOS_ACCEPTED || answer.value == 0, "a refusal has no value");
     return answer;
 }
 
-static void show(const char *text, const char *how, uint64_t answer)
+static void show(const char *text, const char *how, struct nos_number answer)
 {
-    if (nos_number(answer) == NOS_ACCEPTED)
-        printf("%s%s: %" PRIu32 ", read up to %zu\n", text, how, nos_value(answer), nos_place(answer));
+    if (answer.number == NOS_ACCEPTED)
+        printf("%s%s: %" PRIu32 ", read up to %zu\n", text, how, answer.value, answer.place);
     else
-        printf("%s%s: refused %" PRIu32 " at %zu, %s\n", text, how, nos_number(answer), nos_place(answer), in_words(answer));
+        printf("%s%s: refused %" PRIu32 " at %zu, %s\n", text, how, answer.number, answer.place, nos_words(answer.number));
 }
 
 static void readings(void)
@@ -235,21 +215,21 @@ static void readings(void)
         {" 101", " (limit 100)", 0, 100, NOS_OVER_LIMIT, 1, 0},
     };
     for (size_t i = 0; i < sizeof lines / sizeof lines[0]; i++) {
-        uint64_t answer = read_number(lines[i].text, strlen(lines[i].text), lines[i].whole, lines[i].limit);
-        check(nos_number(answer) == lines[i].number, lines[i].text);
-        check(nos_place(answer) == lines[i].place && nos_value(answer) == lines[i].value, lines[i].text);
+        struct nos_number answer = read_number(lines[i].text, strlen(lines[i].text), lines[i].whole, lines[i].limit);
+        check(answer.number == lines[i].number, lines[i].text);
+        check(answer.place == lines[i].place && answer.value == lines[i].value, lines[i].text);
         show(lines[i].text, lines[i].how, answer);
     }
     /* the longest text that is read, and one byte more */
     static char text[NOS_LONGEST + 1];
     memset(text, ' ', sizeof text);
     text[NOS_LONGEST - 1] = '7';
-    uint64_t longest = read_number(text, NOS_LONGEST, 1, NOS_NO_LIMIT);
-    check(nos_number(longest) == NOS_ACCEPTED && nos_value(longest) == 7, "65535 bytes are read");
-    check(nos_place(longest) == NOS_LONGEST, "the place of a text's end is its length");
+    struct nos_number longest = read_number(text, NOS_LONGEST, 1, NOS_NO_LIMIT);
+    check(longest.number == NOS_ACCEPTED && longest.value == 7, "65535 bytes are read");
+    check(longest.place == NOS_LONGEST, "the place of a text's end is its length");
     show("65534 spaces and 7", "", longest);
-    uint64_t longer = read_number(text, sizeof text, 1, NOS_NO_LIMIT);
-    check(nos_number(longer) == NOS_OVER_LENGTH && nos_place(longer) == 0, "65536 bytes are not");
+    struct nos_number longer = read_number(text, sizeof text, 1, NOS_NO_LIMIT);
+    check(longer.number == NOS_OVER_LENGTH && longer.place == 0, "65536 bytes are not");
     show("the same and a space", "", longer);
 }
 

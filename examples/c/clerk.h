@@ -12,7 +12,8 @@ extern uint8_t diary[DIARY];
 /* Ends the day where a claim does not hold. */
 void check(int holds, const char *claim);
 
-const char *in_words(uint64_t answer);
+/* Whether two answers are the same but for what is free, which goes by the room. */
+int alike(struct nos_answer one, struct nos_answer other);
 
 /* Bytes that differ from their neighbours, with the top bit set, so that one moved or written is seen. */
 void fill(uint8_t *bytes, size_t size);

@@ -26,7 +26,7 @@ static void check(int holds, const char *claim)
 }
 
 /* Translates a row into the first `room` bytes of a clean paper, with no flags and up to 8 look-ups. */
-static uint64_t translate(const char *text, size_t room)
+static struct nos_answer translate(const char *text, size_t room)
 {
     check(room <= PAPER, "no more is lent than there is");
     memset(paper, '.', PAPER);
@@ -34,12 +34,11 @@ static uint64_t translate(const char *text, size_t room)
 }
 
 /* The whole row stands on the paper, and nothing was written behind it. */
-static void check_whole(uint64_t answer)
+static void check_whole(struct nos_answer answer)
 {
-    size_t need = nos_need(answer);
-    check(nos_number(answer) == NOS_ACCEPTED && need == strlen(whole), "the row is accepted");
-    check(memcmp(paper, whole, need) == 0, "every byte of the row is there");
-    check(memcmp(paper + need, clean, PAPER - need) == 0, "nothing was written behind it");
+    check(answer.number == NOS_ACCEPTED && answer.need == strlen(whole), "the row is accepted");
+    check(memcmp(paper, whole, answer.need) == 0, "every byte of the row is there");
+    check(memcmp(paper + answer.need, clean, PAPER - answer.need) == 0, "nothing was written behind it");
 }
 
 int main(void)
@@ -48,36 +47,37 @@ int main(void)
     printf("A row of the diary:  %s\n", row);
     printf("Its variables:       Farm$Name is Lower Ash, Quantity is 1048576\n\n");
 
-    uint64_t answer = translate(row, PAPER);
+    struct nos_answer answer = translate(row, PAPER);
     check_whole(answer);
     printf("1. Translated, with room for %d bytes\n", PAPER);
-    printf("       %.*s\n", (int)nos_need(answer), (const char *)paper);
-    printf("   accepted, %zu bytes\n\n", nos_need(answer));
+    printf("       %.*s\n", (int)answer.need, (const char *)paper);
+    printf("   accepted, %zu bytes\n\n", answer.need);
 
-    uint64_t refused = translate(row, SHORT);
-    check(nos_number(refused) == NOS_NO_ROOM && nos_need(refused) == strlen(whole), "too little room is refused, with the need");
+    struct nos_answer refused = translate(row, SHORT);
+    check(refused.number == NOS_NO_ROOM && refused.need == strlen(whole), "too little room is refused, with the need");
     check(memcmp(paper, clean, PAPER) == 0, "a refusal changes no byte");
     printf("2. The same row, with room for %d bytes\n", SHORT);
-    printf("   refused %" PRIu32 ", No room, need %zu: room for %zu bytes would have been enough. No byte was written.\n",
-           nos_number(refused), nos_need(refused), nos_need(refused));
+    printf("   refused %" PRIu32 ", %s, need %zu: room for %zu bytes would have been enough. No byte was written.\n",
+           refused.number, nos_words(refused.number), refused.need, refused.need);
     printf("   A conversion that cuts would have left this, which looks like a whole row:\n");
     printf("       %.*s\n\n", SHORT, whole);
 
-    uint64_t again = translate(row, nos_need(refused));
+    struct nos_answer again = translate(row, refused.need);
     check_whole(again);
-    printf("3. The second ask, with the room that the refusal carries, %zu bytes\n", nos_need(refused));
-    printf("       %.*s\n", (int)nos_need(again), (const char *)paper);
-    printf("   accepted, %zu bytes\n\n", nos_need(again));
+    printf("3. The second ask, with the room that the refusal carries, %zu bytes\n", refused.need);
+    printf("       %.*s\n", (int)again.need, (const char *)paper);
+    printf("   accepted, %zu bytes\n\n", again.need);
 
-    uint64_t mistake = translate(wrong, PAPER);
-    check(nos_number(mistake) == NOS_UNKNOWN_NAME && wrong[nos_place(mistake)] == '<', "the mistake is refused at its place");
+    struct nos_answer mistake = translate(wrong, PAPER);
+    check(mistake.number == NOS_UNKNOWN_NAME && wrong[mistake.place] == '<', "the mistake is refused at its place");
     check(memcmp(paper, clean, PAPER) == 0, "a refusal changes no byte");
-    check(translate(wrong, SHORT) == mistake, "the room makes no difference to it");
+    struct nos_answer same = translate(wrong, SHORT);
+    check(same.number == mistake.number && same.place == mistake.place, "the room makes no difference to it");
     printf("4. A row with a mistake in it, with room for %d bytes\n", PAPER);
     printf("       %s\n", wrong);
-    printf("       %*s^\n", (int)nos_place(mistake), "");
-    printf("   refused %" PRIu32 " at %zu, Unknown name: the row is wrong at byte %zu, counted from 0, and no room would help.\n",
-           nos_number(mistake), nos_place(mistake), nos_place(mistake));
+    printf("       %*s^\n", (int)mistake.place, "");
+    printf("   refused %" PRIu32 " at %zu, %s: the row is wrong at byte %zu, counted from 0, and no room would help.\n",
+           mistake.number, mistake.place, nos_words(mistake.number), mistake.place);
     printf("   No byte was written.\n");
     return 0;
 }

@@ -24,37 +24,38 @@ static bool is_memory(const struct machine *machine, uint32_t at, uint32_t lengt
     return at <= machine->size && length <= machine->size - at;
 }
 
+/* The machine's own words where it has them; the library's for what the machine does not know. */
 static const char *message_of(uint32_t refusal)
 {
     switch (refusal) {
     case NOS_NO_ROOM: return "Buffer overflow";
-    case NOS_BAD_BASE: return "Bad base";
     case NOS_TOO_BIG: return "Number too big";
     case NOS_NO_DIGIT: case NOS_NOT_ENDED: case NOS_OVER_LIMIT: return "Bad number";
     case NOS_BAD_CODE: case NOS_BAD_STRING: case NOS_BAD_REFERENCE: return "Bad string";
     case NOS_UNKNOWN_NAME: return "System variable not found";
-    case NOS_TOO_DEEP: return "Nested too deeply";
-    case NOS_ALLOWANCE_SPENT: return "Too many look-ups";
-    case NOS_BAD_TABLE: return "Bad table of variables";
-    case NOS_BAD_EXPRESSION: return "Bad expression";
     case NOS_ZERO_DIVISOR: return "Division by zero";
-    case NOS_NOT_AN_INTEGER: return "Not an integer variable";
-    case NOS_OVER_LENGTH: return "Too long";
     case BAD_ADDRESS: return "Bad address";
     }
-    return "Refused";
+    return nos_words(refusal);
 }
 
 static struct error_block block_of(uint32_t refusal, const char *message)
 {
-    struct error_block block = {.number = ERROR_BASE + refusal};
+    struct error_block block = {ERROR_BASE + refusal, ""};
     strncpy(block.message, message, MESSAGE_ROOM - 1);
     return block;
 }
 
 static struct served error(uint32_t refusal, uint32_t need)
 {
-    return (struct served){RAISED, refusal, need, block_of(refusal, message_of(refusal))};
+    struct served served = {RAISED, refusal, need, block_of(refusal, message_of(refusal))};
+    return served;
+}
+
+static struct served ended(enum ending ending)
+{
+    struct served served = {ending, 0, 0, {0, ""}};
+    return served;
 }
 
 /* A string of the program's, copied out of its memory, with the byte behind it. A copy, since what is lent to be read must not
@@ -99,44 +100,44 @@ static struct reading read_in_base(const uint8_t *text, size_t length, uint32_t 
     size_t spaces = 0, ahead = 0;
     while (spaces < length && text[spaces] == ' ') spaces++;
     if (base >= 2 && base <= 36 && base != 10 && !has_base(text + spaces, length - spaces)) {
-        ahead = nos_place(nos_convert(NOS_UNSIGNED_1, base, lent, sizeof lent));
+        ahead = nos_convert(NOS_UNSIGNED_1, base, lent, sizeof lent).place;
         lent[ahead++] = '_';
     }
     size_t lent_length = ahead + length - spaces;
     memcpy(lent + ahead, text + spaces, length - spaces);
-    uint64_t answer = nos_read_unsigned(lent, lent_length, whole, limit);
-    size_t place = nos_place(answer);
-    return (struct reading){nos_number(answer), nos_value(answer), place + spaces - ahead, place == lent_length};
+    struct nos_number answer = nos_read_unsigned(lent, lent_length, whole, limit);
+    struct reading reading = {answer.number, answer.value, answer.place + spaces - ahead, answer.place == lent_length};
+    return reading;
 }
 
 /* &21 OS_ReadUnsigned.
  *   gives   R0 the base, 2 to 36 (else 10), with flags: bit 31, the byte behind the number must be a space or a control character;
  *           bit 30, at most 255; bit 29, at most R2. R1 the string's address
  *   gets    R1 the address of the first byte not read, R2 the value; R0 stays
- *   errors  Bad number       2 no digit; 5 bit 31's check; 6 bit 30's check
+ *   errors  Bad number       2 no digit; 5 bit 31's check; 6 bit 30's check, where bit 29's holds or is not asked for
  *           Bad base         3
- *           Number too big   4 over 4,294,967,295, of which the book says nothing; 6 bit 29's check, also beside bit 30
- *           Too long         18 more than 65,531 bytes of spaces and digits: the number's end was not seen
+ *           Number too big   4 over 4,294,967,295, of which the book says nothing; 6 bit 29's check, whether bit 30's holds or not
+ *           nos_words        18 more than 65,531 bytes of spaces and digits: the number's end was not seen
  *           Bad address      the byte behind the number is no memory
  * Where the bytes that were looked at end inside a number, it may go on behind them: it is never given as if it were whole. */
 static struct served read_unsigned(const struct machine *machine, struct registers *registers)
 {
-    enum { MOST = NOS_LONGEST - 3 }; /* room for a base and "_" */
+    const uint32_t most = NOS_LONGEST - 3; /* room for a base and "_" */
     uint32_t flags = registers->r[0] & FLAG_BITS, base = registers->r[0] & ~FLAG_BITS, at = registers->r[1], limit = NOS_NO_LIMIT;
     if (at >= machine->size) return error(BAD_ADDRESS, 0);
-    uint32_t left = machine->size - at, length = left < MOST ? left : MOST;
-    if (flags & CHECK_BYTE) limit = 255;
-    if (flags & CHECK_R2 && registers->r[2] < limit) limit = registers->r[2];
+    uint32_t left = machine->size - at, length = left < most ? left : most;
+    if (flags & CHECK_R2) limit = registers->r[2];
     struct reading reading = read_in_base(machine->memory + at, length, base, flags & CHECK_TERMINATOR, limit);
-    if (reading.cut) return error(length < left ? NOS_OVER_LENGTH : BAD_ADDRESS, 0);
+    if (reading.cut) return error(length < left ? (uint32_t)NOS_OVER_LENGTH : BAD_ADDRESS, 0);
     if (reading.refusal != NOS_ACCEPTED) {
         struct served served = error(reading.refusal, 0);
-        if (reading.refusal == NOS_OVER_LIMIT && flags & CHECK_R2) served.error = block_of(NOS_OVER_LIMIT, "Number too big");
+        if (reading.refusal == NOS_OVER_LIMIT) served.error = block_of(NOS_OVER_LIMIT, "Number too big");
         return served;
     }
+    if (flags & CHECK_BYTE && reading.value > 255) return error(NOS_OVER_LIMIT, 0);
     registers->r[1] = at + (uint32_t)reading.place;
     registers->r[2] = reading.value;
-    return (struct served){.ending = SERVED};
+    return ended(SERVED);
 }
 
 /* &27 OS_GSTrans.
@@ -146,9 +147,8 @@ static struct served read_unsigned(const struct machine *machine, struct registe
  *           terminator. The size has to have room for it
  *   short   a buffer that is too short is no error: C set, R1 0, R2 the size plus 1; R0 and every byte of the buffer stay. The
  *           need, with the terminator, which the library knows nothing of, is in struct served alone
- *   errors  Bad string 7, 8, 9; Number too big 4; System variable not found 10; Nested too deeply 11; Too many look-ups 12;
- *           Bad table of variables 13; Too long 18; Bad address: no byte 0, 10 or 13 before memory's end, or the buffer is not all
- *           memory
+ *   errors  Bad string 7, 8, 9; Number too big 4; System variable not found 10; as by nos_words 11, 12, 13, 18; Bad address: no
+ *           byte 0, 10 or 13 before memory's end, or the buffer is not all memory
  * After an error C, too, stays as it was. */
 static struct served gs_trans(const struct machine *machine, struct registers *registers)
 {
@@ -156,21 +156,22 @@ static struct served gs_trans(const struct machine *machine, struct registers *r
     uint32_t size = registers->r[2] & ~FLAG_BITS, flags = registers->r[2] & FLAG_BITS, buffer = registers->r[1];
     if (!take_string(machine, registers->r[0], &string) || !is_memory(machine, buffer, size)) return error(BAD_ADDRESS, 0);
     size_t room = size > 0 ? size - 1 : 0; /* without the terminator */
-    uint64_t answer = nos_translate(string.bytes, string.length, machine->table, machine->table_length, flags, machine->allowance,
-                                    machine->memory + buffer, room);
-    uint32_t refusal = nos_number(answer), need = (uint32_t)nos_need(answer);
-    if (refusal == NOS_NO_ROOM || (refusal == NOS_ACCEPTED && size == 0)) {
+    struct nos_answer answer = nos_translate(string.bytes, string.length, machine->table, machine->table_length, flags,
+                                             machine->allowance, machine->memory + buffer, room);
+    uint32_t need = (uint32_t)answer.need;
+    if (answer.number == NOS_NO_ROOM || (answer.number == NOS_ACCEPTED && size == 0)) {
+        struct served too_short = {SERVED, NOS_NO_ROOM, need + 1, {0, ""}};
         registers->r[1] = 0;
         registers->r[2] = size + 1;
         registers->carry = true;
-        return (struct served){.ending = SERVED, .refusal = NOS_NO_ROOM, .need = need + 1};
+        return too_short;
     }
-    if (refusal != NOS_ACCEPTED) return error(refusal, 0);
-    machine->memory[buffer + need] = string.bytes[nos_place(answer)];
-    registers->r[0] += (uint32_t)nos_place(answer) + 1;
+    if (answer.number != NOS_ACCEPTED) return error(answer.number, 0);
+    machine->memory[buffer + need] = string.bytes[answer.place];
+    registers->r[0] += (uint32_t)answer.place + 1;
     registers->r[2] = need;
     registers->carry = false;
-    return (struct served){.ending = SERVED};
+    return ended(SERVED);
 }
 
 /* &28 OS_BinaryToDecimal.
@@ -183,27 +184,26 @@ static struct served binary_to_decimal(const struct machine *machine, struct reg
 {
     uint32_t buffer = registers->r[1], size = registers->r[2];
     if (!is_memory(machine, buffer, size)) return error(BAD_ADDRESS, 0);
-    uint64_t answer = nos_convert(NOS_DECIMAL, registers->r[0], machine->memory + buffer, size);
-    if (nos_number(answer) != NOS_ACCEPTED) return error(nos_number(answer), (uint32_t)nos_need(answer));
-    registers->r[2] = (uint32_t)nos_place(answer);
-    return (struct served){.ending = SERVED};
+    struct nos_answer answer = nos_convert(NOS_DECIMAL, registers->r[0], machine->memory + buffer, size);
+    if (answer.number != NOS_ACCEPTED) return error(answer.number, (uint32_t)answer.need);
+    registers->r[2] = (uint32_t)answer.place;
+    return ended(SERVED);
 }
 
 /* &2D OS_EvaluateExpression.
  *   gives   R0 the expression's address; R1 and R2 a buffer for a string, which is not looked at: no integer needs it
  *   gets    R1 0, for an integer, and R2 its value; R0 stays
- *   errors  Bad expression 15, also for one with strings; Division by zero 16; Not an integer variable 17; System variable not
- *           found 10; Nested too deeply 11; Too many look-ups 12; Bad number 2; Bad base 3; Number too big 4; Bad table of
- *           variables 13; Too long 18; Bad address: no byte 0, 10 or 13 before memory's end */
+ *   errors  Bad expression 15, also for one with strings; Division by zero 16; System variable not found 10; Bad number 2; Bad
+ *           base 3; Number too big 4; as by nos_words 11, 12, 13, 17, 18; Bad address: no byte 0, 10 or 13 before memory's end */
 static struct served evaluate(const struct machine *machine, struct registers *registers)
 {
     struct string string;
     if (!take_string(machine, registers->r[0], &string)) return error(BAD_ADDRESS, 0);
-    uint64_t answer = nos_evaluate(string.bytes, string.length, machine->table, machine->table_length, machine->allowance);
-    if (nos_number(answer) != NOS_ACCEPTED) return error(nos_number(answer), 0);
+    struct nos_value answer = nos_evaluate(string.bytes, string.length, machine->table, machine->table_length, machine->allowance);
+    if (answer.number != NOS_ACCEPTED) return error(answer.number, 0);
     registers->r[1] = 0;
-    registers->r[2] = nos_value(answer); /* as a C number: nos_signed(answer) */
-    return (struct served){.ending = SERVED};
+    registers->r[2] = (uint32_t)answer.value;
+    return ended(SERVED);
 }
 
 /* &D0 to &E8 OS_Convert...
@@ -215,12 +215,12 @@ static struct served convert(const struct machine *machine, uint32_t call, struc
 {
     uint32_t buffer = registers->r[1], size = registers->r[2];
     if (!is_memory(machine, buffer, size)) return error(BAD_ADDRESS, 0);
-    uint64_t answer = nos_convert(call, registers->r[0], machine->memory + buffer, size);
-    if (nos_number(answer) != NOS_ACCEPTED) return error(nos_number(answer), (uint32_t)nos_need(answer));
+    struct nos_answer answer = nos_convert(call, registers->r[0], machine->memory + buffer, size);
+    if (answer.number != NOS_ACCEPTED) return error(answer.number, (uint32_t)answer.need);
     registers->r[0] = buffer;
-    registers->r[1] = buffer + (uint32_t)nos_place(answer);
-    registers->r[2] = size - (uint32_t)nos_place(answer);
-    return (struct served){.ending = SERVED};
+    registers->r[1] = buffer + (uint32_t)answer.place;
+    registers->r[2] = (uint32_t)answer.free;
+    return ended(SERVED);
 }
 
 static bool is_mine(uint32_t call)
@@ -249,8 +249,8 @@ static void put_block(uint8_t *at, const struct error_block *block)
 struct served handle_swi(const struct machine *machine, uint32_t swi, struct registers *registers)
 {
     uint32_t call = swi & ~X_FORM;
-    if (!is_mine(call)) return (struct served){.ending = NOT_MINE};
-    if (!is_memory(machine, machine->error_at, ERROR_ROOM)) return (struct served){.ending = NO_BLOCK};
+    if (!is_mine(call)) return ended(NOT_MINE);
+    if (!is_memory(machine, machine->error_at, ERROR_ROOM)) return ended(NO_BLOCK);
     struct served served = serve(machine, call, registers);
     registers->overflow = served.ending != SERVED;
     if (served.ending == SERVED) return served;

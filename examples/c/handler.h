@@ -9,13 +9,18 @@
  *   &D0 to &E8   OS_Convert...             a number as a string
  *
  * A result stands whole in the program's memory and registers, or nothing does. handler.c says above each call what the program
- * gives, what it gets, and what it sees of each refusal. */
+ * gives, what it gets, and what it sees of each refusal. A call takes some 70,000 bytes of the host's stack, for a copy of the
+ * string, and NOS_STACK behind them. */
 #ifndef HANDLER_H
 #define HANDLER_H
 
 #include <stdbool.h>
 
 #include "nosgoludd.h"
+
+#ifdef __cplusplus
+extern "C" {
+#endif
 
 /* What the emulator lends to the handler for one call. */
 struct machine {
@@ -34,7 +39,7 @@ struct registers {
 };
 
 /* An error as the program meets it at `error_at`: the number, lowest byte first, and the message with a zero byte behind it. */
-enum { ERROR_ROOM = 32, MESSAGE_ROOM = ERROR_ROOM - 4 };
+enum { ERROR_ROOM = 40, MESSAGE_ROOM = ERROR_ROOM - 4 };
 struct error_block {
     uint32_t number;
     char message[MESSAGE_ROOM];
@@ -67,5 +72,9 @@ struct served {
 
 /* Serves the SWI of a number. Registers that a call does not set, and all of them but R0 after an error, stay as they were. */
 struct served handle_swi(const struct machine *machine, uint32_t swi, struct registers *registers);
+
+#ifdef __cplusplus
+}
+#endif
 
 #endif

@@ -95,8 +95,9 @@ static void check_the_rest(const struct test *test)
 
 static void run_on(const struct machine *machine, const struct test *test, bool carry)
 {
-    struct registers registers = {.r = {test->r0, test->r1, test->r2}, .carry = carry, .overflow = !carry}, expected = registers;
-    for (size_t i = 3; i < 16; i++) registers.r[i] = expected.r[i] = 0xAB00 + (uint32_t)i;
+    struct registers registers = {{test->r0, test->r1, test->r2}, carry, !carry};
+    for (size_t i = 3; i < 16; i++) registers.r[i] = 0xAB00 + (uint32_t)i;
+    struct registers expected = registers;
     struct served served = handle_swi(machine, test->swi, &registers);
     bool failed = served.ending == RETURNED || served.ending == RAISED;
     if (served.ending == SERVED || failed) {
@@ -127,7 +128,9 @@ static void run(const struct machine *machine, const struct test *list, size_t c
 }
 
 #define RUN(list) run(&usual, list, sizeof list / sizeof list[0])
-#define DONE {SERVED, 0, 0, {0}}
+#define DONE {SERVED, 0, 0, {0, ""}}
+#define SHORT(need) {SERVED, NOS_NO_ROOM, need, {0, ""}}
+#define LONG "Text or table over 65,535 bytes"
 #define FAILS(what, swi, text, text_at, r0, r1, r2, refusal, need, message) \
     {what, swi, text, text_at, r0, r1, r2, {(swi) & X ? RETURNED : RAISED, refusal, need, {0, message}}, 0, 0, 0, 0, NULL, 0, 0}
 
@@ -148,7 +151,11 @@ static void read_unsigned(void)
         FAILS("256, bit 30", X + 0x21, "256 ", TEXT, BIT_30, TEXT, 0, 6, 0, "Bad number"),
         {"100, bit 29, R2 100", 0x21, "100 ", TEXT, BIT_29, TEXT, 100, DONE, BIT_29, TEXT + 3, 100, 0, NULL, 0, 0},
         FAILS("101, bit 29, R2 100", 0x21, "101 ", TEXT, BIT_29, TEXT, 100, 6, 0, "Number too big"),
-        FAILS("256, bits 29 and 30, R2 300", X + 0x21, "256 ", TEXT, BIT_29 | BIT_30, TEXT, 300, 6, 0, "Number too big"),
+        {"255, bits 29 and 30, R2 300", 0x21, "255 ", TEXT, BIT_29 | BIT_30, TEXT, 300, DONE, BIT_29 | BIT_30, TEXT + 3, 255, 0, NULL,
+         0, 0},
+        FAILS("256, bits 29 and 30, R2 300", X + 0x21, "256 ", TEXT, BIT_29 | BIT_30, TEXT, 300, 6, 0, "Bad number"),
+        FAILS("301, bits 29 and 30, R2 300", X + 0x21, "301 ", TEXT, BIT_29 | BIT_30, TEXT, 300, 6, 0, "Number too big"),
+        FAILS("101, bits 29 and 30, R2 100", 0x21, "101 ", TEXT, BIT_29 | BIT_30, TEXT, 100, 6, 0, "Number too big"),
         {"101 without bit 29, R2 100", 0x21, "101 ", TEXT, 0, TEXT, 100, DONE, 0, TEXT + 3, 101, 0, NULL, 0, 0},
         FAILS("no digit", X + 0x21, "&G", TEXT, 10, TEXT, 0, 2, 0, "Bad number"),
         FAILS("2 in base 2", 0x21, "2 ", TEXT, 2, TEXT, 0, 2, 0, "Bad number"),
@@ -173,9 +180,9 @@ static void gs_trans(void)
         {"variables", X + 0x27, "<head> <SUM>\n", TEXT, TEXT, BUFFER, 64, DONE, TEXT + 13, BUFFER, 10, 0, "Ash! -1250\n", BUFFER,
          11},
         {"the string's length and 1", 0x27, "<head>\r", TEXT, TEXT, BUFFER, 5, DONE, TEXT + 7, BUFFER, 4, 0, "Ash!\r", BUFFER, 5},
-        {"one byte too few", 0x27, "<head>\r", TEXT, TEXT, BUFFER, 4, {SERVED, 1, 5, {0}}, TEXT, 0, 5, 1, NULL, 0, 0},
-        {"no buffer", X + 0x27, "<head>\r", TEXT, TEXT, BUFFER, 0, {SERVED, 1, 5, {0}}, TEXT, 0, 1, 1, NULL, 0, 0},
-        {"no buffer, no string", 0x27, "\r", TEXT, TEXT, BUFFER, 0, {SERVED, 1, 1, {0}}, TEXT, 0, 1, 1, NULL, 0, 0},
+        {"one byte too few", 0x27, "<head>\r", TEXT, TEXT, BUFFER, 4, SHORT(5), TEXT, 0, 5, 1, NULL, 0, 0},
+        {"no buffer", X + 0x27, "<head>\r", TEXT, TEXT, BUFFER, 0, SHORT(5), TEXT, 0, 1, 1, NULL, 0, 0},
+        {"no buffer, no string", 0x27, "\r", TEXT, TEXT, BUFFER, 0, SHORT(1), TEXT, 0, 1, 1, NULL, 0, 0},
         {"one byte, no string", 0x27, "\r", TEXT, TEXT, BUFFER, 1, DONE, TEXT + 1, BUFFER, 0, 0, "\r", BUFFER, 1},
         {"a space ends", 0x27, " a b\r", TEXT, TEXT, BUFFER, BIT_29 | 8, DONE, TEXT + 3, BUFFER, 1, 0, "a ", BUFFER, 2},
         {"quotes", 0x27, "\"a \"\"b\"  \r", TEXT, TEXT, BUFFER, 8, DONE, TEXT + 10, BUFFER, 4, 0, "a \"b\r", BUFFER, 5},
@@ -190,7 +197,7 @@ static void gs_trans(void)
         FAILS("the same, no buffer", 0x27, "a<\r", TEXT, TEXT, BUFFER, 0, 9, 0, "Bad string"),
         FAILS("a large number", X + 0x27, "<4294967296>\r", TEXT, TEXT, BUFFER, 64, 4, 0, "Number too big"),
         FAILS("an unknown name", 0x27, "<x>\r", TEXT, TEXT, BUFFER, 64, 10, 0, "System variable not found"),
-        FAILS("a macro in itself", X + 0x27, "<loop>\r", TEXT, TEXT, BUFFER, 64, 11, 0, "Nested too deeply"),
+        FAILS("a macro in itself", X + 0x27, "<loop>\r", TEXT, TEXT, BUFFER, 64, 11, 0, "Too deep"),
         {"the last bytes of memory", 0x27, "<sum>\r", SIZE - 6, SIZE - 6, BUFFER, 6, DONE, SIZE, BUFFER, 5, 0, "-1250\r", BUFFER,
          6},
         {"into the last bytes of memory", 0x27, "<sum>\r", TEXT, TEXT, SIZE - 6, 6, DONE, TEXT + 6, SIZE - 6, 5, 0, "-1250\r",
@@ -222,7 +229,7 @@ static void evaluate(void)
 {
     static const struct test list[] = {
         {"a sum", 0x2D, "2147483647+1\r", TEXT, TEXT, FAR, FAR, DONE, TEXT, 0, BIT_31, 0, NULL, 0, 0},
-        FAILS("a string with no end", X + 0x2D, "-7 MOD 2", TEXT, TEXT, BUFFER, 8, 18, 0, "Too long"),
+        FAILS("a string with no end", X + 0x2D, "-7 MOD 2", TEXT, TEXT, BUFFER, 8, 18, 0, LONG),
         {"-7 MOD 2", X + 0x2D, "-7 MOD 2\n", TEXT, TEXT, BUFFER, 8, DONE, TEXT, 0, (uint32_t)-1, 0, NULL, 0, 0},
         {"a variable", 0x2D, "(sum+1250)=0\r", TEXT, TEXT, BUFFER, 8, DONE, TEXT, 0, (uint32_t)-1, 0, NULL, 0, 0},
         FAILS("a string", 0x2D, "\"HI\"\r", TEXT, TEXT, BUFFER, 8, 15, 0, "Bad expression"),
@@ -230,7 +237,7 @@ static void evaluate(void)
         FAILS("over zero", X + 0x2D, "1/0\r", TEXT, TEXT, BUFFER, 8, 16, 0, "Division by zero"),
         FAILS("a string variable", 0x2D, "farm+1\r", TEXT, TEXT, BUFFER, 8, 17, 0, "Not an integer variable"),
         FAILS("an unknown name", 0x2D, "x\r", TEXT, TEXT, BUFFER, 8, 10, 0, "System variable not found"),
-        FAILS("17 brackets", X + 0x2D, "(((((((((((((((((1\r", TEXT, TEXT, BUFFER, 8, 11, 0, "Nested too deeply"),
+        FAILS("17 brackets", X + 0x2D, "(((((((((((((((((1\r", TEXT, TEXT, BUFFER, 8, 11, 0, "Too deep"),
         FAILS("no digit", 0x2D, "&\r", TEXT, TEXT, BUFFER, 8, 2, 0, "Bad number"),
         FAILS("a bad base", 0x2D, "37_1\r", TEXT, TEXT, BUFFER, 8, 3, 0, "Bad base"),
         FAILS("over 32 bits", 0x2D, "4294967296\r", TEXT, TEXT, BUFFER, 8, 4, 0, "Number too big"),
@@ -273,7 +280,7 @@ static void others(void)
 {
     static const uint32_t swis[] = {0x00, 0x20, 0x22, 0x26, 0x29, 0x2C, 0x2E, 0xCF, 0xE9, X + 0xE9, 0x400D8, 0x10027, 0xFFFFFF};
     for (size_t i = 0; i < sizeof swis / sizeof swis[0]; i++) {
-        const struct test list[] = {{"another call", swis[i], "1\r", TEXT, TEXT, BUFFER, 64, {0}, 0, 0, 0, 0, NULL, 0, 0}};
+        const struct test list[] = {{"another call", swis[i], "1\r", TEXT, TEXT, BUFFER, 64, {NOT_MINE, 0, 0, {0, ""}}, 0, 0, 0, 0, NULL, 0, 0}};
         RUN(list);
     }
 }
@@ -282,18 +289,18 @@ static void others(void)
 static void hosts(void)
 {
     static const struct test spent[] = {
-        FAILS("three look-ups of two", 0x27, "<head><sum>\r", TEXT, TEXT, BUFFER, 64, 12, 0, "Too many look-ups"),
-        FAILS("three look-ups of two", X + 0x2D, "sum+sum+sum\r", TEXT, TEXT, BUFFER, 64, 12, 0, "Too many look-ups"),
+        FAILS("three look-ups of two", 0x27, "<head><sum>\r", TEXT, TEXT, BUFFER, 64, 12, 0, "Allowance spent"),
+        FAILS("three look-ups of two", X + 0x2D, "sum+sum+sum\r", TEXT, TEXT, BUFFER, 64, 12, 0, "Allowance spent"),
     };
     static const struct test bad[] = {
-        FAILS("a bad table", 0x27, "a\r", TEXT, TEXT, BUFFER, 64, 13, 0, "Bad table of variables"),
-        FAILS("a bad table", X + 0x2D, "1\r", TEXT, TEXT, BUFFER, 64, 13, 0, "Bad table of variables"),
+        FAILS("a bad table", 0x27, "a\r", TEXT, TEXT, BUFFER, 64, 13, 0, "Bad table"),
+        FAILS("a bad table", X + 0x2D, "1\r", TEXT, TEXT, BUFFER, 64, 13, 0, "Bad table"),
     };
     static const struct test empty = {"no table", 0x27, "<65>\r", TEXT, TEXT, BUFFER, 64, DONE, TEXT + 5, BUFFER, 1, 0, "A\r",
                                       BUFFER, 2};
     static const struct test no_block[] = {
-        {"no place for errors", 0x28, NULL, 0, 96, BUFFER, 64, {NO_BLOCK, 0, 0, {0}}, 0, 0, 0, 0, NULL, 0, 0},
-        {"no place for errors", X + 0x28, NULL, 0, 96, BUFFER, 0, {NO_BLOCK, 0, 0, {0}}, 0, 0, 0, 0, NULL, 0, 0},
+        {"no place for errors", 0x28, NULL, 0, 96, BUFFER, 64, {NO_BLOCK, 0, 0, {0, ""}}, 0, 0, 0, 0, NULL, 0, 0},
+        {"no place for errors", X + 0x28, NULL, 0, 96, BUFFER, 0, {NO_BLOCK, 0, 0, {0, ""}}, 0, 0, 0, 0, NULL, 0, 0},
     };
     static const struct test at_the_end = FAILS("errors at memory's end", 0x28, NULL, 0, 96, BUFFER, 0, 1, 3, "Buffer overflow");
     struct machine machine = usual;
@@ -326,11 +333,11 @@ static void long_strings(void)
     enum { NUMBER = NOS_LONGEST - 4, LAST = 0x1F000 };
     static const struct test list[] = {
         {"65530 spaces and 7", 0x21, NULL, 0, 10, TEXT, 0, DONE, 10, TEXT + NUMBER, 7, 0, NULL, 0, 0},
-        FAILS("65531 spaces and 7", 0x21, NULL, 0, 10, TEXT, 0, 18, 0, "Too long"),
+        FAILS("65531 spaces and 7", 0x21, NULL, 0, 10, TEXT, 0, 18, 0, LONG),
         {"65535 spaces", 0x27, NULL, 0, TEXT, LAST, 1, DONE, TEXT + NOS_LONGEST + 1, LAST, 0, 0, "\r", LAST, 1},
-        FAILS("65536 spaces", 0x27, NULL, 0, TEXT, LAST, 1, 18, 0, "Too long"),
+        FAILS("65536 spaces", 0x27, NULL, 0, TEXT, LAST, 1, 18, 0, LONG),
         {"65534 spaces and 7", 0x2D, NULL, 0, TEXT, 0, 0, DONE, TEXT, 0, 7, 0, NULL, 0, 0},
-        FAILS("65535 spaces and 7", X + 0x2D, NULL, 0, TEXT, 0, 0, 18, 0, "Too long"),
+        FAILS("65535 spaces and 7", X + 0x2D, NULL, 0, TEXT, 0, 0, 18, 0, LONG),
     };
     run_long(&list[0], NUMBER, '7');
     run_long(&list[1], NUMBER + 1, '7');
@@ -340,8 +347,16 @@ static void long_strings(void)
     run_long(&list[5], NOS_LONGEST + 1, '7');
 }
 
+/* No message is cut. */
+static void messages(void)
+{
+    for (uint32_t number = 0; number <= NOS_OVER_LENGTH; number++)
+        check(strlen(nos_words(number)) < MESSAGE_ROOM, nos_words(number), "there is room for the words and their zero byte");
+}
+
 int main(void)
 {
+    messages();
     read_unsigned();
     gs_trans();
     binary_to_decimal();

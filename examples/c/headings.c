@@ -43,20 +43,20 @@ static size_t put_record(uint8_t *at, uint8_t kind, const char *name, const void
     return sizeof head + name_length + length;
 }
 
-static uint64_t check_table(size_t length)
+static struct nos_checked check_table(size_t length)
 {
-    uint64_t answer = nos_check_table(table, length);
-    check(nos_counted(answer) == NOS_IN_THE_TABLE && nos_place(answer) <= length, "a place is counted in the table");
-    check(nos_number(answer) == NOS_ACCEPTED ? nos_place(answer) == 0 : nos_value(answer) == 0,
+    struct nos_checked answer = nos_check_table(table, length);
+    check(answer.place <= length, "the place is in the table");
+    check(answer.number == NOS_ACCEPTED ? answer.place == 0 : answer.records == 0,
           "a good table has the place 0, a refused one no number of records");
     return answer;
 }
 
 static void expect_bad(size_t length, size_t place, const char *how)
 {
-    uint64_t answer = check_table(length);
-    check(nos_number(answer) == NOS_BAD_TABLE && nos_place(answer) == place, how);
-    printf("%s: refused %" PRIu32 " at %zu, %s\n", how, nos_number(answer), nos_place(answer), in_words(answer));
+    struct nos_checked answer = check_table(length);
+    check(answer.number == NOS_BAD_TABLE && answer.place == place, how);
+    printf("%s: refused %" PRIu32 " at %zu, %s\n", how, answer.number, answer.place, nos_words(answer.number));
 }
 
 static void build_the_table(void)
@@ -66,12 +66,12 @@ static void build_the_table(void)
         table_length += put_record(table + table_length, variables[i].kind, variables[i].name, variables[i].value,
                                    variables[i].length);
     }
-    uint64_t answer = check_table(table_length);
-    check(nos_number(answer) == NOS_ACCEPTED && nos_value(answer) == VARIABLES, "the table is good");
-    printf("a table of %zu bytes: good, %" PRIu32 " records\n", table_length, nos_value(answer));
-    uint64_t empty = nos_check_table(NULL, 0);
-    check(nos_number(empty) == NOS_ACCEPTED && nos_value(empty) == 0, "NULL with length 0 is a good table");
-    printf("no table: good, %" PRIu32 " records\n", nos_value(empty));
+    struct nos_checked answer = check_table(table_length);
+    check(answer.number == NOS_ACCEPTED && answer.records == VARIABLES, "the table is good");
+    printf("a table of %zu bytes: good, %" PRIu32 " records\n", table_length, answer.records);
+    struct nos_checked empty = nos_check_table(NULL, 0);
+    check(empty.number == NOS_ACCEPTED && empty.records == 0, "NULL with length 0 is a good table");
+    printf("no table: good, %" PRIu32 " records\n", empty.records);
 }
 
 /* One byte damaged, and put right again. The place is that of the record, not of the byte. */
@@ -91,20 +91,30 @@ static void damage_the_table(void)
     expect_bad(table_length - 1, 94, "the last byte cut off");
     size_t more = put_record(table + table_length, NOS_MACRO, "FARM$NAME", "", 0);
     expect_bad(table_length + more, table_length, "FARM$NAME added");
-    check(nos_number(check_table(table_length)) == NOS_ACCEPTED, "the table is good again");
+    check(check_table(table_length).number == NOS_ACCEPTED, "the table is good again");
 }
 
 /* Finds a variable: its record's place, its kind, and its value in the table. */
 static void find(const char *name, size_t which)
 {
-    uint64_t answer = nos_look_up(table, table_length, bytes_of(name), strlen(name));
-    size_t place = nos_place(answer), value = place + 5 + table[place + 3], length = table[place + 4];
-    check(nos_number(answer) == NOS_ACCEPTED && nos_counted(answer) == NOS_IN_THE_TABLE, name);
-    check(place == variables[which].place && nos_value(answer) == variables[which].kind, name);
-    check(length == variables[which].length && memcmp(table + value, variables[which].value, length) == 0, name);
-    printf("%s: %s at %zu, ", name, kinds[nos_value(answer)], place);
-    print_bytes(table + value, length);
+    struct nos_variable found = nos_look_up(bytes_of(name), strlen(name), table, table_length);
+    check(found.number == NOS_ACCEPTED && found.counted == NOS_IN_THE_TABLE, name);
+    check(found.place == variables[which].place && found.kind == variables[which].kind, name);
+    check(found.start == found.place + 5 + strlen(name) && found.length == variables[which].length, name);
+    check(memcmp(table + found.start, variables[which].value, found.length) == 0, name);
+    printf("%s: %s at %zu, ", name, kinds[found.kind], found.place);
+    print_bytes(table + found.start, found.length);
     putchar('\n');
+}
+
+/* Looks a name up that is not found. */
+static struct nos_variable expect_not_found(const char *name, const uint8_t *in, size_t length, uint32_t number, size_t place)
+{
+    struct nos_variable answer = nos_look_up(bytes_of(name), name == NULL ? 0 : strlen(name), in, length);
+    check(answer.number == number && answer.place == place, "it is not found");
+    check(answer.counted == (number == NOS_UNKNOWN_NAME ? NOS_IN_THE_TEXT : NOS_IN_THE_TABLE), "only a bad table has its place there");
+    check(answer.kind == 0 && answer.start == 0 && answer.length == 0, "a refusal has no value");
+    return answer;
 }
 
 static void look_up(void)
@@ -113,16 +123,15 @@ static void look_up(void)
     find("FARM$NAME", 0);
     find("bALANCE", 1);
     find("heading", 2);
-    uint64_t unknown = nos_look_up(table, table_length, bytes_of("Nobody"), 6);
-    check(unknown == (NOS_UNKNOWN_NAME | NOS_IN_THE_TABLE << 8), "Nobody is unknown, with the place 0 in the table");
-    check(nos_look_up(table, table_length, NULL, 0) == unknown, "so is NULL with length 0");
-    check(nos_look_up(NULL, 0, NULL, 0) == unknown, "also in NULL with length 0");
-    printf("Nobody: refused %" PRIu32 ", %s\n", nos_number(unknown), in_words(unknown));
+    struct nos_variable unknown = expect_not_found("Nobody", table, table_length, NOS_UNKNOWN_NAME, 0);
+    expect_not_found(NULL, table, table_length, NOS_UNKNOWN_NAME, 0);
+    expect_not_found(NULL, NULL, 0, NOS_UNKNOWN_NAME, 0);
+    printf("Nobody: refused %" PRIu32 ", %s\n", unknown.number, nos_words(unknown.number));
+    expect_not_found("Balance", longest, sizeof longest, NOS_OVER_LENGTH, 0);
     table[40] = 0;
-    uint64_t bad = nos_look_up(table, table_length, bytes_of("Balance"), 7);
+    struct nos_variable bad = expect_not_found("Balance", table, table_length, NOS_BAD_TABLE, 39);
     table[40] = 82;
-    check(nos_number(bad) == NOS_BAD_TABLE && nos_place(bad) == 39, "the whole table is checked before the name is looked for");
-    printf("Balance, a later record being bad: refused %" PRIu32 " at %zu, %s\n", nos_number(bad), nos_place(bad), in_words(bad));
+    printf("Balance, a later record being bad: refused %" PRIu32 " at %zu, %s\n", bad.number, bad.place, nos_words(bad.number));
 }
 
 struct asked {
@@ -135,28 +144,29 @@ struct asked {
 
 static struct asked of_the_table(const char *text, uint32_t flags, uint32_t allowance)
 {
-    return (struct asked){bytes_of(text), strlen(text), table, table_length, flags, allowance};
+    struct asked a = {bytes_of(text), strlen(text), table, table_length, flags, allowance};
+    return a;
 }
 
 /* Translates into the part of a paper that starts at `at`, and checks what holds of every call: no more than the need is written, a
  * refusal writes nothing, and every other byte of the paper is as it was. */
-static uint64_t translate(struct asked a, uint8_t *paper, size_t size, size_t at, size_t room)
+static struct nos_answer translate(struct asked a, uint8_t *paper, size_t size, size_t at, size_t room)
 {
     remember(paper, size);
-    uint64_t answer = nos_translate(a.text, a.length, a.table, a.table_length, a.flags, a.allowance, paper + at, room);
-    uint32_t number = nos_number(answer);
-    size_t need = nos_need(answer), written = number == NOS_ACCEPTED ? need : 0;
-    check(written <= room, "no more is written than was lent");
+    struct nos_answer answer = nos_translate(a.text, a.length, a.table, a.table_length, a.flags, a.allowance, paper + at, room);
+    uint32_t number = answer.number;
+    size_t need = answer.need, written = number == NOS_ACCEPTED ? need : 0;
+    check(written <= room && answer.free == room - written, "no more is written than was lent, and the rest is free");
     check(number == NOS_ACCEPTED || (number == NOS_NO_ROOM ? need > room : need == 0), "a need is over the room; others have none");
-    if (nos_counted(answer) == NOS_IN_THE_TEXT)
-        check(nos_place(answer) <= a.length && number != NOS_BAD_TABLE, "the place is in the text");
+    if (answer.counted == NOS_IN_THE_TEXT)
+        check(answer.place <= a.length && number != NOS_BAD_TABLE, "the place is in the text");
     else
         check(number == NOS_BAD_TABLE || number == NOS_OVER_LENGTH, "only 13 and 18 have places in the table");
     check_the_rest(paper, size, at, written);
     return answer;
 }
 
-static uint64_t on_a_clean_slip(struct asked a, size_t room)
+static struct nos_answer on_a_clean_slip(struct asked a, size_t room)
 {
     fill(slip, sizeof slip);
     return translate(a, slip, sizeof slip, MARGIN, room);
@@ -166,18 +176,18 @@ static uint64_t on_a_clean_slip(struct asked a, size_t room)
 static void ask_twice(struct asked a, const char *how, const char *given, size_t length, size_t end)
 {
     size_t little = length - 1;
-    uint64_t refused = on_a_clean_slip(a, little);
-    check(nos_number(refused) == NOS_NO_ROOM && nos_need(refused) == length, "one byte too few is refused, with the need");
-    check(nos_place(refused) == 0, "no room has the place 0");
-    uint64_t more = on_a_clean_slip(a, SLIP), answer = on_a_clean_slip(a, nos_need(refused));
-    check(nos_number(answer) == NOS_ACCEPTED && nos_need(answer) == length && more == answer, "the need is enough");
-    check(nos_place(answer) == end, "the text's end");
+    struct nos_answer refused = on_a_clean_slip(a, little);
+    check(refused.number == NOS_NO_ROOM && refused.need == length, "one byte too few is refused, with the need");
+    check(refused.place == 0, "no room has the place 0");
+    struct nos_answer more = on_a_clean_slip(a, SLIP), answer = on_a_clean_slip(a, refused.need);
+    check(answer.number == NOS_ACCEPTED && answer.need == length && alike(more, answer), "the need is enough");
+    check(answer.place == end, "the text's end");
     check(memcmp(slip + MARGIN, given, length) == 0, given);
     print_bytes(a.text, a.length);
-    printf("%s: room %zu, refused %" PRIu32 ", need %zu, no byte changed; room %zu: ", how, little, nos_number(refused),
-           nos_need(refused), nos_need(refused));
-    print_bytes(slip + MARGIN, nos_need(answer));
-    printf(", read up to %zu\n", nos_place(answer));
+    printf("%s: room %zu, refused %" PRIu32 ", need %zu, no byte changed; room %zu: ", how, little, refused.number, refused.need,
+           refused.need);
+    print_bytes(slip + MARGIN, answer.need);
+    printf(", read up to %zu\n", answer.place);
 }
 
 static void translations(void)
@@ -205,25 +215,26 @@ static void translations(void)
 /* NULL pointers that no one follows. */
 static void of_nothing(void)
 {
-    uint64_t nothing = nos_translate(NULL, 0, NULL, 0, 0, 0, NULL, 0);
-    check(nothing == NOS_ACCEPTED, "no text is accepted, with the need 0 and the end 0");
-    printf("no text, no table, no buffer: accepted, need %zu\n", nos_need(nothing));
-    uint64_t refused = nos_translate(bytes_of("<Heading>"), 9, table, table_length, 0, 3, NULL, 0);
-    check(nos_number(refused) == NOS_NO_ROOM && nos_need(refused) == 16, "no buffer is refused, with the need");
-    printf("<Heading>, no buffer: refused %" PRIu32 ", %s, need %zu\n", nos_number(refused), in_words(refused), nos_need(refused));
-    uint64_t unknown = nos_translate(bytes_of("<Heading>"), 9, NULL, 0, 0, 3, NULL, 0);
-    check(nos_number(unknown) == NOS_UNKNOWN_NAME && nos_need(unknown) == 0, "in no table every name is unknown");
-    printf("<Heading>, no table: refused %" PRIu32 " at %zu, %s\n", nos_number(unknown), nos_place(unknown), in_words(unknown));
+    struct nos_answer nothing = nos_translate(NULL, 0, NULL, 0, 0, 0, NULL, 0);
+    check(nothing.number == NOS_ACCEPTED && nothing.counted == NOS_IN_THE_TEXT, "no text is accepted");
+    check(nothing.place == 0 && nothing.need == 0 && nothing.free == 0, "with the need 0 and the end 0");
+    printf("no text, no table, no buffer: accepted, need %zu\n", nothing.need);
+    struct nos_answer refused = nos_translate(bytes_of("<Heading>"), 9, table, table_length, 0, 3, NULL, 0);
+    check(refused.number == NOS_NO_ROOM && refused.need == 16, "no buffer is refused, with the need");
+    printf("<Heading>, no buffer: refused %" PRIu32 ", %s, need %zu\n", refused.number, nos_words(refused.number), refused.need);
+    struct nos_answer unknown = nos_translate(bytes_of("<Heading>"), 9, NULL, 0, 0, 3, NULL, 0);
+    check(unknown.number == NOS_UNKNOWN_NAME && unknown.need == 0, "in no table every name is unknown");
+    printf("<Heading>, no table: refused %" PRIu32 " at %zu, %s\n", unknown.number, unknown.place, nos_words(unknown.number));
 }
 
 /* Refused at every room alike: the room is looked at last. */
 static void expect_refused(struct asked a, const char *what, uint32_t number, uint32_t counted, size_t place)
 {
-    uint64_t answer = on_a_clean_slip(a, SLIP);
-    check(nos_number(answer) == number && nos_counted(answer) == counted && nos_place(answer) == place, what);
-    check(on_a_clean_slip(a, 0) == answer, "with room 0 it is the same refusal");
-    printf("%s: refused %" PRIu32 " at %zu%s, %s, no byte changed\n", what, nos_number(answer), nos_place(answer),
-           nos_counted(answer) == NOS_IN_THE_TABLE ? " in the table" : "", in_words(answer));
+    struct nos_answer answer = on_a_clean_slip(a, SLIP);
+    check(answer.number == number && answer.counted == counted && answer.place == place, what);
+    check(alike(on_a_clean_slip(a, 0), answer), "with room 0 it is the same refusal");
+    printf("%s: refused %" PRIu32 " at %zu%s, %s, no byte changed\n", what, answer.number, answer.place,
+           answer.counted == NOS_IN_THE_TABLE ? " in the table" : "", nos_words(answer.number));
 }
 
 static void refusals(void)
@@ -251,11 +262,11 @@ static void refusals(void)
     }
     table[24] = 83;
     expect_refused(of_the_table("<", 0, 0), "< over a damaged table", NOS_BAD_TABLE, NOS_IN_THE_TABLE, 23);
-    struct asked a = {longest, sizeof longest, table, table_length, 0, 0};
-    expect_refused(a, "65536 bytes of text over it", NOS_OVER_LENGTH, NOS_IN_THE_TEXT, 0);
+    struct asked long_text = {longest, sizeof longest, table, table_length, 0, 0};
+    expect_refused(long_text, "65536 bytes of text over it", NOS_OVER_LENGTH, NOS_IN_THE_TEXT, 0);
     table[24] = 82;
-    a = (struct asked){bytes_of("<"), 1, longest, sizeof longest, 0, 0};
-    expect_refused(a, "< over 65536 bytes of table", NOS_OVER_LENGTH, NOS_IN_THE_TABLE, 0);
+    struct asked long_table = {bytes_of("<"), 1, longest, sizeof longest, 0, 0};
+    expect_refused(long_table, "< over 65536 bytes of table", NOS_OVER_LENGTH, NOS_IN_THE_TABLE, 0);
 }
 
 /* The longest text with all look-ups that there are, each giving the longest value. */
@@ -268,32 +279,32 @@ static void the_largest(void)
     for (size_t i = 0; i < 1024; i++) memcpy(longest + 3 * i, "<a>", 3);
     struct asked a = {longest, NOS_LONGEST, wide, sizeof wide, 0, NOS_NO_LIMIT};
     fill(diary, sizeof diary);
-    uint64_t refused = translate(a, diary, sizeof diary, MARGIN, MOST - 1);
-    check(nos_number(refused) == NOS_NO_ROOM && nos_need(refused) == MOST, "one byte too few is refused, with the need");
-    uint64_t answer = translate(a, diary, sizeof diary, MARGIN, nos_need(refused));
-    check(nos_number(answer) == NOS_ACCEPTED && nos_need(answer) == MOST && nos_place(answer) == NOS_LONGEST, "the need is enough");
+    struct nos_answer refused = translate(a, diary, sizeof diary, MARGIN, MOST - 1);
+    check(refused.number == NOS_NO_ROOM && refused.need == MOST, "one byte too few is refused, with the need");
+    struct nos_answer answer = translate(a, diary, sizeof diary, MARGIN, refused.need);
+    check(answer.number == NOS_ACCEPTED && answer.need == MOST && answer.place == NOS_LONGEST, "the need is enough");
     for (size_t i = 0; i < MOST; i++) check(diary[MARGIN + i] == (i < 1024 * 255 ? 'v' : 'x'), "every byte is there");
     printf("1024 look-ups in %u bytes: room %d, refused %" PRIu32 ", need %zu, no byte changed; room %zu: all there\n", NOS_LONGEST,
-           MOST - 1, nos_number(refused), nos_need(refused), nos_need(refused));
+           MOST - 1, refused.number, refused.need, refused.need);
     memcpy(longest + 3 * 1024, "<a>", 3);
     expect_refused(a, "1025 look-ups (allowance 4294967295)", NOS_ALLOWANCE_SPENT, NOS_IN_THE_TEXT, 3 * 1024);
 }
 
 /* Works a sum out, and checks what holds of every call. */
-static uint64_t evaluate(const uint8_t *text, size_t length, uint32_t allowance)
+static struct nos_value evaluate(const uint8_t *text, size_t length, uint32_t allowance)
 {
-    uint64_t answer = nos_evaluate(text, length, table, table_length, allowance);
-    check(nos_number(answer) == NOS_ACCEPTED || nos_value(answer) == 0, "a refused sum has no value");
-    check(nos_counted(answer) == NOS_IN_THE_TEXT && nos_place(answer) <= length, "over a good table the place is in the text");
+    struct nos_value answer = nos_evaluate(text, length, table, table_length, allowance);
+    check(answer.number == NOS_ACCEPTED || answer.value == 0, "a refused sum has no value");
+    check(answer.counted == NOS_IN_THE_TEXT && answer.place <= length, "over a good table the place is in the text");
     return answer;
 }
 
 static void sums(void)
 {
-    static const struct { const char *text; uint32_t allowance, number; int64_t value; size_t place; } lines[] = {
+    static const struct { const char *text; uint32_t allowance, number; int32_t value; size_t place; } lines[] = {
         {"balance + 1250", 1, NOS_ACCEPTED, 0, 14},
         {" (12 + 3) * -96 ", 0, NOS_ACCEPTED, -1440, 16},
-        {"2147483647+1", 0, NOS_ACCEPTED, -2147483648, 12},
+        {"2147483647+1", 0, NOS_ACCEPTED, INT32_MIN, 12},
         {"-7 MOD 2", 0, NOS_ACCEPTED, -1, 8},
         {"&FFFFFFFF >>> 28", 0, NOS_ACCEPTED, 15, 16},
         {"Balance < 0 AND NOT 2_1", 1, NOS_ACCEPTED, -2, 23},
@@ -311,38 +322,42 @@ static void sums(void)
         {"96/(Balance+1250)", 1, NOS_ZERO_DIVISOR, 0, 2},
     };
     for (size_t i = 0; i < sizeof lines / sizeof lines[0]; i++) {
-        uint64_t answer = evaluate(bytes_of(lines[i].text), strlen(lines[i].text), lines[i].allowance);
-        check(nos_number(answer) == lines[i].number && nos_place(answer) == lines[i].place, lines[i].text);
-        check(nos_signed(answer) == lines[i].value, lines[i].text);
+        struct nos_value answer = evaluate(bytes_of(lines[i].text), strlen(lines[i].text), lines[i].allowance);
+        check(answer.number == lines[i].number && answer.place == lines[i].place, lines[i].text);
+        check(answer.value == lines[i].value, lines[i].text);
         print_bytes(bytes_of(lines[i].text), strlen(lines[i].text));
-        if (nos_number(answer) == NOS_ACCEPTED)
-            printf(": %" PRId64 ", read up to %zu\n", nos_signed(answer), nos_place(answer));
+        if (answer.number == NOS_ACCEPTED)
+            printf(": %" PRId32 ", read up to %zu\n", answer.value, answer.place);
         else
-            printf(": refused %" PRIu32 " at %zu, %s\n", nos_number(answer), nos_place(answer), in_words(answer));
+            printf(": refused %" PRIu32 " at %zu, %s\n", answer.number, answer.place, nos_words(answer.number));
     }
+}
+
+static void expect(struct nos_value answer, uint32_t number, uint32_t counted, size_t place, int32_t value, const char *claim)
+{
+    check(answer.number == number && answer.counted == counted && answer.place == place && answer.value == value, claim);
 }
 
 /* Sums of nothing, over nothing, and over what is too much. */
 static void other_sums(void)
 {
-    uint64_t nothing = nos_evaluate(NULL, 0, NULL, 0, 0);
-    check(nothing == NOS_BAD_EXPRESSION, "no text is refused at 0, with no value");
-    printf("no sum: refused %" PRIu32 " at %zu, %s\n", nos_number(nothing), nos_place(nothing), in_words(nothing));
-    uint64_t unknown = nos_evaluate(bytes_of("Balance"), 7, NULL, 0, 9);
-    check(unknown == NOS_UNKNOWN_NAME, "in no table every name is unknown");
-    printf("Balance, no table: refused %" PRIu32 " at %zu, %s\n", nos_number(unknown), nos_place(unknown), in_words(unknown));
+    struct nos_value nothing = nos_evaluate(NULL, 0, NULL, 0, 0);
+    expect(nothing, NOS_BAD_EXPRESSION, NOS_IN_THE_TEXT, 0, 0, "no text is refused at 0, with no value");
+    printf("no sum: refused %" PRIu32 " at %zu, %s\n", nothing.number, nothing.place, nos_words(nothing.number));
+    struct nos_value unknown = nos_evaluate(bytes_of("Balance"), 7, NULL, 0, 9);
+    expect(unknown, NOS_UNKNOWN_NAME, NOS_IN_THE_TEXT, 0, 0, "in no table every name is unknown");
+    printf("Balance, no table: refused %" PRIu32 " at %zu, %s\n", unknown.number, unknown.place, nos_words(unknown.number));
     memset(longest, ' ', sizeof longest);
     longest[NOS_LONGEST - 1] = '7';
-    uint64_t most = evaluate(longest, NOS_LONGEST, 0), more = evaluate(longest, sizeof longest, 0);
-    check(nos_number(most) == NOS_ACCEPTED && nos_signed(most) == 7 && nos_place(most) == NOS_LONGEST, "65535 bytes are read");
-    check(more == NOS_OVER_LENGTH, "65536 bytes are not");
-    printf("65534 spaces and 7: %" PRId64 "; the same and a space: refused %" PRIu32 "\n", nos_signed(most), nos_number(more));
+    struct nos_value most = evaluate(longest, NOS_LONGEST, 0), more = evaluate(longest, sizeof longest, 0);
+    expect(most, NOS_ACCEPTED, NOS_IN_THE_TEXT, NOS_LONGEST, 7, "65535 bytes are read");
+    expect(more, NOS_OVER_LENGTH, NOS_IN_THE_TEXT, 0, 0, "65536 bytes are not");
+    printf("65534 spaces and 7: %" PRId32 "; the same and a space: refused %" PRIu32 "\n", most.value, more.number);
     table[24] = 83;
-    uint64_t bad = nos_evaluate(bytes_of("1/0"), 3, table, table_length, 0);
+    struct nos_value bad = nos_evaluate(bytes_of("1/0"), 3, table, table_length, 0);
     table[24] = 82;
-    check(bad == (NOS_BAD_TABLE | NOS_IN_THE_TABLE << 8 | 23 << 16), "a damaged table comes before the sum's own faults");
-    printf("1/0 over a damaged table: refused %" PRIu32 " at %zu in the table, %s\n", nos_number(bad), nos_place(bad),
-           in_words(bad));
+    expect(bad, NOS_BAD_TABLE, NOS_IN_THE_TABLE, 23, 0, "a damaged table comes before the sum's own faults");
+    printf("1/0 over a damaged table: refused %" PRIu32 " at %zu in the table, %s\n", bad.number, bad.place, nos_words(bad.number));
 }
 
 void headings(void)
