@@ -16,7 +16,7 @@ const TABLE: &[u8] = b"VR\x00\x09\x09Farm$NameLower Ash\
 const WHOLE: &[u8] = b"Lower Ash: 1048576 kg";
 
 /// A refusal in the text that is not for lack of room.
-fn refused(number: u8, place: usize) -> Refusal {
+fn refused(number: u32, place: usize) -> Refusal {
     Refusal { number, place, in_the_table: false, need: 0 }
 }
 
@@ -88,11 +88,12 @@ fn numbers() -> Result<(), Refusal> {
 
 fn variables() -> Result<(), Refusal> {
     assert_eq!(check_table(TABLE)?, 3);
-    assert_eq!(look_up(TABLE, b"FARM$NAME")?, Variable::String(b"Lower Ash"));
-    assert_eq!(look_up(TABLE, b"quantity")?, Variable::Integer(1048576));
-    assert_eq!(look_up(TABLE, b"Heading")?, Variable::Macro(b"<Farm$Name>: <Quantity> kg"));
-    let unknown = look_up(TABLE, b"Nobody").expect_err("no record has the name");
-    assert_eq!(unknown, Refusal { in_the_table: true, ..refused(10, 0) });
+    assert_eq!(look_up(b"FARM$NAME", TABLE)?, Variable::String(b"Lower Ash"));
+    assert_eq!(look_up(b"quantity", TABLE)?, Variable::Integer(1048576));
+    assert_eq!(look_up(b"Heading", TABLE)?, Variable::Macro(b"<Farm$Name>: <Quantity> kg"));
+    assert_eq!(look_up(b"Nobody", TABLE), Err(refused(10, 0)));
+    let bad = look_up(b"Quantity", &TABLE[1..]).expect_err("the first record is bad");
+    assert_eq!(bad, Refusal { in_the_table: true, ..refused(13, 0) });
 
     let sum = b"-(Quantity + 7) MOD 10";
     let evaluated = evaluate(sum, TABLE, 1)?;

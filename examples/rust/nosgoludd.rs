@@ -1,16 +1,62 @@
 //! Nosgoludd for Rust: the declarations of include/nosgoludd.h, which has the rules, and a safe function over slices for each.
-//! An operation comes whole, `Ok`, or it is an `Err(Refusal)` and no byte of a lent buffer was changed.
+//! An operation comes whole, `Ok`, or it is an `Err(Refusal)` and no byte of a lent buffer was changed. For editions 2021 and 2024.
+
+// a program that copies this module need not use all of it
+#![allow(dead_code)]
 
 use std::fmt;
 
-/// The six functions as the header declares them. Safe Rust has no way to break what they ask of a caller: a slice is as long as it
-/// says, and nothing else reads or writes a `&mut [u8]` while it is lent. The pointer of an empty slice is not used.
+/// The six functions and their answers as the header declares them. Safe Rust has no way to break what they ask of a caller: a slice
+/// is as long as it says, and nothing else reads or writes a `&mut [u8]` while it is lent. The pointer of an empty slice is not used.
 mod c {
-    extern "C" {
-        pub fn nos_convert(call: u32, value: u32, buf: *mut u8, room: usize) -> u64;
-        pub fn nos_read_unsigned(text: *const u8, length: usize, whole: u32, limit: u32) -> u64;
-        pub fn nos_check_table(table: *const u8, length: usize) -> u64;
-        pub fn nos_look_up(table: *const u8, length: usize, name: *const u8, name_length: usize) -> u64;
+    use std::mem::{offset_of, size_of};
+
+    #[repr(C)]
+    pub struct Answer {
+        pub number: u32,
+        pub counted: u32,
+        pub place: usize,
+        pub need: usize,
+        pub free: usize,
+    }
+
+    #[repr(C)]
+    pub struct Number {
+        pub number: u32,
+        pub value: u32,
+        pub place: usize,
+    }
+
+    #[repr(C)]
+    pub struct Checked {
+        pub number: u32,
+        pub records: u32,
+        pub place: usize,
+    }
+
+    #[repr(C)]
+    pub struct Variable {
+        pub number: u32,
+        pub counted: u32,
+        pub place: usize,
+        pub kind: u32,
+        pub length: u32,
+        pub start: usize,
+    }
+
+    #[repr(C)]
+    pub struct Value {
+        pub number: u32,
+        pub counted: u32,
+        pub place: usize,
+        pub value: i32,
+    }
+
+    unsafe extern "C" {
+        pub fn nos_convert(call: u32, value: u32, buf: *mut u8, room: usize) -> Answer;
+        pub fn nos_read_unsigned(text: *const u8, length: usize, whole: u32, limit: u32) -> Number;
+        pub fn nos_check_table(table: *const u8, length: usize) -> Checked;
+        pub fn nos_look_up(name: *const u8, name_length: usize, table: *const u8, table_length: usize) -> Variable;
         pub fn nos_translate(
             text: *const u8,
             length: usize,
@@ -20,14 +66,45 @@ mod c {
             allowance: u32,
             out: *mut u8,
             room: usize,
-        ) -> u64;
-        pub fn nos_evaluate(text: *const u8, length: usize, table: *const u8, table_length: usize, allowance: u32) -> u64;
+        ) -> Answer;
+        pub fn nos_evaluate(text: *const u8, length: usize, table: *const u8, table_length: usize, allowance: u32) -> Value;
     }
+
+    // the structs lie in memory as the library lays them
+    const _: () = assert!(size_of::<Answer>() == 32 && offset_of!(Answer, place) == 8 && offset_of!(Answer, free) == 24);
+    const _: () = assert!(size_of::<Number>() == 16 && offset_of!(Number, value) == 4 && offset_of!(Number, place) == 8);
+    const _: () = assert!(size_of::<Checked>() == 16 && offset_of!(Checked, records) == 4 && offset_of!(Checked, place) == 8);
+    const _: () = assert!(size_of::<Variable>() == 32 && offset_of!(Variable, kind) == 16 && offset_of!(Variable, start) == 24);
+    const _: () = assert!(size_of::<Value>() == 24 && offset_of!(Value, place) == 8 && offset_of!(Value, value) == 16);
 }
 
-/// A few of the calls of `convert`; the header lists all 26.
+/// The calls of `convert`. The number in a name is that of the digits for hex, and of the low bytes that are used for the others.
+pub const DECIMAL: u32 = 0x28;
+pub const HEX_1: u32 = 0xD0;
+pub const HEX_2: u32 = 0xD1;
+pub const HEX_4: u32 = 0xD2;
+pub const HEX_6: u32 = 0xD3;
+pub const HEX_8: u32 = 0xD4;
+pub const UNSIGNED_1: u32 = 0xD5;
+pub const UNSIGNED_2: u32 = 0xD6;
+pub const UNSIGNED_3: u32 = 0xD7;
 pub const UNSIGNED_4: u32 = 0xD8;
+pub const SIGNED_1: u32 = 0xD9;
+pub const SIGNED_2: u32 = 0xDA;
+pub const SIGNED_3: u32 = 0xDB;
+pub const SIGNED_4: u32 = 0xDC;
+pub const BINARY_1: u32 = 0xDD;
+pub const BINARY_2: u32 = 0xDE;
+pub const BINARY_3: u32 = 0xDF;
+pub const BINARY_4: u32 = 0xE0;
+pub const SPACED_UNSIGNED_1: u32 = 0xE1;
+pub const SPACED_UNSIGNED_2: u32 = 0xE2;
+pub const SPACED_UNSIGNED_3: u32 = 0xE3;
 pub const SPACED_UNSIGNED_4: u32 = 0xE4;
+pub const SPACED_SIGNED_1: u32 = 0xE5;
+pub const SPACED_SIGNED_2: u32 = 0xE6;
+pub const SPACED_SIGNED_3: u32 = 0xE7;
+pub const SPACED_SIGNED_4: u32 = 0xE8;
 
 /// The flags of a text, to be combined by `|`.
 pub const SPACE_ENDS: u32 = 1 << 29;
@@ -38,13 +115,36 @@ pub const QUOTE_PLAIN: u32 = 1 << 31;
 pub const NO_LIMIT: u32 = u32::MAX;
 
 /// The refusal number of "No room", the one that can be helped by asking again with more room.
-pub const NO_ROOM: u8 = 1;
+pub const NO_ROOM: u32 = 1;
+
+/// The refusals in words, by their numbers, as the header's `nos_words` has them.
+pub const WORDS: [&str; 19] = [
+    "Accepted",
+    "No room",
+    "Bad number: no digit",
+    "Bad base",
+    "Too big: over 4,294,967,295",
+    "Not ended",
+    "Over the caller's limit",
+    "Bad code",
+    "Bad string",
+    "Bad reference",
+    "Unknown name",
+    "Too deep",
+    "Allowance spent",
+    "Bad table",
+    "Unknown call",
+    "Bad expression",
+    "Zero divisor",
+    "Not an integer variable",
+    "Text or table over 65,535 bytes",
+];
 
 /// Why there is no answer.
 #[derive(Clone, Copy, Debug, PartialEq, Eq)]
 pub struct Refusal {
     /// The number, 1 to 18.
-    pub number: u8,
+    pub number: u32,
     /// Where, in bytes from 0.
     pub place: usize,
     /// Whether the place is counted in the table; else it is in the text.
@@ -54,29 +154,9 @@ pub struct Refusal {
 }
 
 impl Refusal {
-    /// The refusal in words, as docs/RULES.md has it.
+    /// The refusal in words.
     pub fn words(&self) -> &'static str {
-        match self.number {
-            NO_ROOM => "No room",
-            2 => "Bad number: no digit",
-            3 => "Bad base",
-            4 => "Too big: over 4,294,967,295",
-            5 => "Not ended",
-            6 => "Over the caller's limit",
-            7 => "Bad code",
-            8 => "Bad string",
-            9 => "Bad reference",
-            10 => "Unknown name",
-            11 => "Too deep",
-            12 => "Allowance spent",
-            13 => "Bad table",
-            14 => "Unknown call",
-            15 => "Bad expression",
-            16 => "Zero divisor",
-            17 => "Not an integer variable",
-            18 => "A text or a table over 65,535 bytes",
-            _ => unreachable!("the library has no other refusal"),
-        }
+        WORDS[self.number as usize]
     }
 }
 
@@ -93,30 +173,20 @@ impl fmt::Display for Refusal {
 
 impl std::error::Error for Refusal {}
 
-/// What an accepted answer holds besides the number 0.
-struct Accepted {
-    place: usize,
-    /// The need or the value.
-    high: u32,
-}
-
-/// Takes an answer apart: the number in bits 0 to 7, what the place is counted in in 8 to 15, the place in 16 to 31, the need or the
-/// value in 32 to 63.
-fn unpacked(answer: u64) -> Result<Accepted, Refusal> {
-    let place = (answer >> 16 & 0xFFFF) as usize;
-    let high = (answer >> 32) as u32;
-    match answer as u8 {
-        0 => Ok(Accepted { place, high }),
-        number => Err(Refusal { number, place, in_the_table: answer >> 8 & 0xFF == 1, need: high as usize }),
+/// Nothing where a number is that of an accepted answer, else the refusal.
+fn accepted(number: u32, counted: u32, place: usize, need: usize) -> Result<(), Refusal> {
+    match number {
+        0 => Ok(()),
+        _ => Err(Refusal { number, place, in_the_table: counted == 1, need }),
     }
 }
 
 /// Writes a value as a string to the start of `buf`, with a zero byte behind it; the string without that byte.
 pub fn convert(call: u32, value: u32, buf: &mut [u8]) -> Result<&str, Refusal> {
     // SAFETY: the pointer and the room are those of one exclusive slice.
-    let answer = unsafe { c::nos_convert(call, value, buf.as_mut_ptr(), buf.len()) };
-    let string = &buf[..unpacked(answer)?.place];
-    Ok(std::str::from_utf8(string).expect("digits, letters, spaces and a minus are ASCII"))
+    let a = unsafe { c::nos_convert(call, value, buf.as_mut_ptr(), buf.len()) };
+    accepted(a.number, a.counted, a.place, a.need)?;
+    Ok(std::str::from_utf8(&buf[..a.place]).expect("digits, letters, spaces and a minus are ASCII"))
 }
 
 #[derive(Clone, Copy, Debug, PartialEq, Eq)]
@@ -129,15 +199,17 @@ pub struct Number {
 /// Reads one unsigned number at the start of a text.
 pub fn read_unsigned(text: &[u8], whole: bool, limit: u32) -> Result<Number, Refusal> {
     // SAFETY: the pointer and the length are those of one slice.
-    let answer = unsafe { c::nos_read_unsigned(text.as_ptr(), text.len(), whole.into(), limit) };
-    unpacked(answer).map(|a| Number { value: a.high, end: a.place })
+    let a = unsafe { c::nos_read_unsigned(text.as_ptr(), text.len(), whole.into(), limit) };
+    accepted(a.number, 0, a.place, 0)?;
+    Ok(Number { value: a.value, end: a.place })
 }
 
 /// Checks a table of variables; the number of its records.
 pub fn check_table(table: &[u8]) -> Result<usize, Refusal> {
     // SAFETY: the pointer and the length are those of one slice.
-    let answer = unsafe { c::nos_check_table(table.as_ptr(), table.len()) };
-    unpacked(answer).map(|a| a.high as usize)
+    let a = unsafe { c::nos_check_table(table.as_ptr(), table.len()) };
+    accepted(a.number, 1, a.place, 0)?;
+    Ok(a.records as usize)
 }
 
 #[derive(Clone, Copy, Debug, PartialEq, Eq)]
@@ -148,13 +220,12 @@ pub enum Variable<'a> {
 }
 
 /// Looks a name up in a table.
-pub fn look_up<'a>(table: &'a [u8], name: &[u8]) -> Result<Variable<'a>, Refusal> {
+pub fn look_up<'a>(name: &[u8], table: &'a [u8]) -> Result<Variable<'a>, Refusal> {
     // SAFETY: each pointer and the length behind it are those of one slice.
-    let answer = unsafe { c::nos_look_up(table.as_ptr(), table.len(), name.as_ptr(), name.len()) };
-    let Accepted { place, high: kind } = unpacked(answer)?;
-    let (name_length, length) = (usize::from(table[place + 3]), usize::from(table[place + 4]));
-    let value = &table[place + 5 + name_length..][..length];
-    Ok(match kind {
+    let a = unsafe { c::nos_look_up(name.as_ptr(), name.len(), table.as_ptr(), table.len()) };
+    accepted(a.number, a.counted, a.place, 0)?;
+    let value = &table[a.start..][..a.length as usize];
+    Ok(match a.kind {
         0 => Variable::String(value),
         1 => Variable::Integer(i32::from_le_bytes(value.try_into().expect("an integer has 4 bytes"))),
         2 => Variable::Macro(value),
@@ -179,10 +250,11 @@ pub fn translate<'a>(
     out: &'a mut [u8],
 ) -> Result<Translated<'a>, Refusal> {
     // SAFETY: each pointer and the length behind it are those of one slice, and `out` is exclusive, so it overlaps no other.
-    let answer = unsafe {
+    let a = unsafe {
         c::nos_translate(text.as_ptr(), text.len(), table.as_ptr(), table.len(), flags, allowance, out.as_mut_ptr(), out.len())
     };
-    unpacked(answer).map(|a| Translated { bytes: &out[..a.high as usize], end: a.place })
+    accepted(a.number, a.counted, a.place, a.need)?;
+    Ok(Translated { bytes: &out[..a.need], end: a.place })
 }
 
 /// Translates a text into as many bytes as it needs: asks with no room, and again with the need that the refusal carries.
@@ -208,7 +280,7 @@ pub struct Evaluated {
 /// Evaluates an expression of signed 32-bit numbers over a table of variables.
 pub fn evaluate(text: &[u8], table: &[u8], allowance: u32) -> Result<Evaluated, Refusal> {
     // SAFETY: each pointer and the length behind it are those of one slice.
-    let answer = unsafe { c::nos_evaluate(text.as_ptr(), text.len(), table.as_ptr(), table.len(), allowance) };
-    // the value's 32-bit pattern, as a number in two's complement
-    unpacked(answer).map(|a| Evaluated { value: a.high as i32, end: a.place })
+    let a = unsafe { c::nos_evaluate(text.as_ptr(), text.len(), table.as_ptr(), table.len(), allowance) };
+    accepted(a.number, a.counted, a.place, 0)?;
+    Ok(Evaluated { value: a.value, end: a.place })
 }
