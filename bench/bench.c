@@ -2,7 +2,6 @@
  * and every byte written is compared. It writes two tables, and behind them lines for bench/plot. */
 #define _POSIX_C_SOURCE 200809L
 #include "inputs.h"
-#include "nosgoludd.h"
 
 #include <stdio.h>
 #include <stdlib.h>
@@ -65,9 +64,9 @@ static void check(const struct work *w, struct input *in)
                 (unsigned long long)first);
         exit(1);
     }
-    /* Of many answers too: a sum of accepted ones has this byte 0. */
-    if (nos_number(first) == 0) return;
-    fprintf(stderr, "%s: refused %u at %zu, and what is timed should be accepted\n", w->name, nos_number(first), nos_place(first));
+    /* Of many answers too: a sum of accepted ones has these bits 0. */
+    if ((first & 0xFFFF) == 0) return;
+    fprintf(stderr, "%s: refused, and what is timed should be accepted\n", w->name);
     exit(1);
 }
 

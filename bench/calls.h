@@ -1,25 +1,31 @@
 /* The functions that the benchmarks time, as one set: the proved library is one, and each build of the plain C another. They are
- * called through the same pointers, so that a call costs the same on every side. */
+ * called through the same pointers and answer by the same structs, so that a call costs the same on every side. */
 #ifndef BENCH_CALLS_H
 #define BENCH_CALLS_H
 
-#include <stddef.h>
-#include <stdint.h>
+#include "nosgoludd.h"
 
 struct calls {
     const char *name;
-    uint64_t (*convert)(uint32_t call, uint32_t value, uint8_t *buf, size_t room);
-    uint64_t (*read_unsigned)(const uint8_t *text, size_t length, uint32_t whole, uint32_t limit);
-    uint64_t (*check_table)(const uint8_t *table, size_t length);
-    uint64_t (*translate)(const uint8_t *text, size_t length, const uint8_t *table, size_t table_length, uint32_t flags,
-                          uint32_t allowance, uint8_t *out, size_t room);
-    uint64_t (*evaluate)(const uint8_t *text, size_t length, const uint8_t *table, size_t table_length, uint32_t allowance);
+    struct nos_answer (*convert)(uint32_t call, uint32_t value, uint8_t *buf, size_t room);
+    struct nos_number (*read_unsigned)(const uint8_t *text, size_t length, uint32_t whole, uint32_t limit);
+    struct nos_checked (*check_table)(const uint8_t *table, size_t length);
+    struct nos_answer (*translate)(const uint8_t *text, size_t length, const uint8_t *table, size_t table_length, uint32_t flags,
+                                   uint32_t allowance, uint8_t *out, size_t room);
+    struct nos_value (*evaluate)(const uint8_t *text, size_t length, const uint8_t *table, size_t table_length, uint32_t allowance);
 };
 
 /* plain.c compiled by the compiler that the library's code came from, and by the system's own. */
 extern const struct calls plain_by_clang, plain_by_gcc;
 
 /* The table's check with a hash of the names in place of comparing every pair. */
-uint64_t hashed_check_table(const uint8_t *table, size_t length);
+struct nos_checked hashed_check_table(const uint8_t *table, size_t length);
+
+/* A number that every field of an answer goes into, for the sum of a pass. Its low 16 bits are 0 where the answer is accepted. */
+static inline uint64_t sum_of(uint32_t number, size_t place, uint64_t other) { return number ^ (uint64_t)place << 16 ^ other << 32; }
+static inline uint64_t sum_of_answer(struct nos_answer a) { return sum_of(a.number, a.place, a.need ^ (uint64_t)a.free << 12 ^ a.counted); }
+static inline uint64_t sum_of_number(struct nos_number a) { return sum_of(a.number, a.place, a.value); }
+static inline uint64_t sum_of_checked(struct nos_checked a) { return sum_of(a.number, a.place, a.records); }
+static inline uint64_t sum_of_value(struct nos_value a) { return sum_of(a.number, a.place, (uint32_t)a.value ^ (uint64_t)a.counted); }
 
 #endif

@@ -1,7 +1,6 @@
 /* Changes the benchmarks' inputs by chance and holds every set's answers and buffers to the first one's: an opponent that is wrong
  * somewhere would be no opponent. */
 #include "inputs.h"
-#include "nosgoludd.h"
 
 #include <stdio.h>
 #include <stdlib.h>
@@ -44,31 +43,60 @@ static void change(struct asked *a, const struct input *in)
 }
 
 /* Everything that a set answers and leaves in a buffer. */
-static void ask(const struct calls *c, const struct asked *a, uint64_t answers[5], uint8_t left[2 * LENT])
+struct answers {
+    struct nos_answer converted, translated;
+    struct nos_number read;
+    struct nos_checked checked;
+    struct nos_value evaluated;
+    uint8_t left[2 * LENT];
+};
+
+static void ask(const struct calls *c, const struct asked *a, struct answers *to)
 {
-    memset(left, 0xEE, 2 * LENT);
-    answers[0] = c->convert(a->call, a->value, left, a->room);
-    answers[1] = c->read_unsigned(a->text, a->length, a->whole, a->limit);
-    answers[2] = c->check_table(a->table, a->table_length);
-    answers[3] = c->translate(a->text, a->length, a->table, a->table_length, a->flags, a->allowance, left + LENT, a->room);
-    answers[4] = c->evaluate(a->text, a->length, a->table, a->table_length, a->allowance);
+    memset(to->left, 0xEE, sizeof to->left);
+    to->converted = c->convert(a->call, a->value, to->left, a->room);
+    to->read = c->read_unsigned(a->text, a->length, a->whole, a->limit);
+    to->checked = c->check_table(a->table, a->table_length);
+    to->translated = c->translate(a->text, a->length, a->table, a->table_length, a->flags, a->allowance, to->left + LENT, a->room);
+    to->evaluated = c->evaluate(a->text, a->length, a->table, a->table_length, a->allowance);
+}
+
+static int same_answer(struct nos_answer a, struct nos_answer b)
+{
+    return a.number == b.number && a.counted == b.counted && a.place == b.place && a.need == b.need && a.free == b.free;
+}
+
+static int same_value(struct nos_value a, struct nos_value b)
+{
+    return a.number == b.number && a.counted == b.counted && a.place == b.place && a.value == b.value;
+}
+
+/* The first thing that two sets differ in, or NULL. */
+static const char *difference(const struct answers *a, const struct answers *b)
+{
+    if (!same_answer(a->converted, b->converted)) return "convert";
+    if (a->read.number != b->read.number || a->read.value != b->read.value || a->read.place != b->read.place) return "read_unsigned";
+    if (a->checked.number != b->checked.number || a->checked.records != b->checked.records || a->checked.place != b->checked.place)
+        return "check_table";
+    if (!same_answer(a->translated, b->translated)) return "translate";
+    if (!same_value(a->evaluated, b->evaluated)) return "evaluate";
+    return memcmp(a->left, b->left, sizeof a->left) == 0 ? NULL : "a buffer";
 }
 
 void check_changed(const struct work *w, struct input *in, const struct calls *const *sets, size_t count)
 {
     static struct asked a;
-    static uint8_t wanted[2 * LENT], left[2 * LENT];
-    uint64_t first[5], others[5];
+    static struct answers first, other;
     for (unsigned i = 0; i < CHANGES; i++) {
         change(&a, in);
-        ask(sets[0], &a, first, wanted);
+        ask(sets[0], &a, &first);
         for (size_t s = 1; s < count; s++) {
-            ask(sets[s], &a, others, left);
-            if (memcmp(first, others, sizeof first) == 0 && memcmp(wanted, left, sizeof left) == 0) continue;
-            fprintf(stderr, "%s: %s and %s differ over a changed input:\n", w->name, sets[0]->name, sets[s]->name);
-            for (int j = 0; j < 5; j++)
-                fprintf(stderr, "  %016llx %016llx\n", (unsigned long long)first[j], (unsigned long long)others[j]);
-            fprintf(stderr, "  flags %x allowance %u text %.*s\n", a.flags, a.allowance, (int)a.length, (const char *)a.text);
+            ask(sets[s], &a, &other);
+            const char *what = difference(&first, &other);
+            if (!what) continue;
+            fprintf(stderr, "%s: %s and %s differ in %s over a changed input:\n", w->name, sets[0]->name, sets[s]->name, what);
+            fprintf(stderr, "  call %x value %x room %zu flags %x allowance %u text %.*s\n", a.call, a.value, a.room, a.flags, a.allowance,
+                    (int)a.length, (const char *)a.text);
             exit(1);
         }
     }

@@ -1,6 +1,5 @@
 /* The check of a table in plain C with a hash of the names: what a C programmer may reach for where 256 names are compared often. */
 #include "calls.h"
-#include "nosgoludd.h"
 
 #include <stdbool.h>
 #include <string.h>
@@ -34,12 +33,12 @@ static bool is_shaped(const uint8_t *at, size_t length, uint32_t *hash)
     return true;
 }
 
-uint64_t hashed_check_table(const uint8_t *table, size_t length)
+struct nos_checked hashed_check_table(const uint8_t *table, size_t length)
 {
     const uint8_t *slots[SLOTS];
     size_t count = 0, at = 0;
     uint32_t hash;
-    if (length > NOS_LONGEST) return NOS_OVER_LENGTH | NOS_IN_THE_TABLE << 8;
+    if (length > NOS_LONGEST) return (struct nos_checked){.number = NOS_OVER_LENGTH};
     memset(slots, 0, sizeof slots);
     for (; at < length; count++) {
         const uint8_t *record = table + at;
@@ -51,6 +50,6 @@ uint64_t hashed_check_table(const uint8_t *table, size_t length)
         slots[slot] = record;
         at += (size_t)5 + record[3] + record[4];
     }
-    if (at < length) return NOS_BAD_TABLE | NOS_IN_THE_TABLE << 8 | (uint64_t)at << 16;
-    return NOS_IN_THE_TABLE << 8 | (uint64_t)count << 32;
+    if (at < length) return (struct nos_checked){.number = NOS_BAD_TABLE, .place = at};
+    return (struct nos_checked){.records = (uint32_t)count};
 }

@@ -1,6 +1,5 @@
 /* Makes the inputs of the benchmarks, each at two scales, and runs the work over them. */
 #include "inputs.h"
-#include "nosgoludd.h"
 
 #include <stdio.h>
 #include <string.h>
@@ -51,7 +50,7 @@ static uint64_t run_convert(const struct calls *c, struct input *in)
     uint64_t sum = 0;
     for (size_t i = 0; i < in->count; i++) {
         const struct item *item = in->items + i;
-        sum = sum * 31 + c->convert(item->call, item->value, in->out + i * SLOT, SLOT);
+        sum = sum * 31 + sum_of_answer(c->convert(item->call, item->value, in->out + i * SLOT, SLOT));
     }
     return sum;
 }
@@ -101,7 +100,7 @@ static uint64_t run_read(const struct calls *c, struct input *in)
     uint64_t sum = 0;
     for (size_t i = 0; i < in->count; i++) {
         const struct item *item = in->items + i;
-        sum = sum * 31 + c->read_unsigned(in->text + item->start, item->length, 0, NOS_NO_LIMIT);
+        sum = sum * 31 + sum_of_number(c->read_unsigned(in->text + item->start, item->length, 0, NOS_NO_LIMIT));
     }
     return sum;
 }
@@ -194,14 +193,14 @@ static void make_alike_records(struct input *in, unsigned scale)
 
 static uint64_t run_check(const struct calls *c, struct input *in)
 {
-    return c->check_table(in->table, in->table_length);
+    return sum_of_checked(c->check_table(in->table, in->table_length));
 }
 
 /* ---- Texts. */
 
 static uint64_t run_translate(const struct calls *c, struct input *in)
 {
-    return c->translate(in->text, in->length, in->table, in->table_length, 0, 1024, in->out, sizeof in->out);
+    return sum_of_answer(c->translate(in->text, in->length, in->table, in->table_length, 0, 1024, in->out, sizeof in->out));
 }
 
 static void make_plain(struct input *in, unsigned scale)
@@ -268,7 +267,7 @@ static void make_marks_16(struct input *in, unsigned scale) { make_marked(in, sc
 
 static uint64_t run_evaluate(const struct calls *c, struct input *in)
 {
-    return c->evaluate(in->text, in->length, in->table, in->table_length, 1024);
+    return sum_of_value(c->evaluate(in->text, in->length, in->table, in->table_length, 1024));
 }
 
 static void add_number(struct input *in)

@@ -34,7 +34,7 @@ extern const size_t work_count;
 void restart(void);
 uint32_t chance(uint32_t below);
 
-/* The calls of the C library over the same inputs; their answers look as the library's do. */
+/* The calls of the C library over the same inputs; the sums of their answers are the library's. */
 uint64_t by_snprintf(struct input *in);
 uint64_t by_strtoul(struct input *in);
 uint64_t by_memcpy(struct input *in);

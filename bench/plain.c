@@ -1,17 +1,11 @@
 /* The same work in plain C, as a careful emulator's author writes it by hand: the opponent of the benchmarks. Nothing here is
  * proved. It answers as include/nosgoludd.h says; the set's name comes from the command line, PLAIN_NAME. */
 #include "calls.h"
-#include "nosgoludd.h"
 
 #include <stdbool.h>
 #include <string.h>
 
 enum { DEEPEST = 16, MOST_RECORDS = 256, MOST_LOOK_UPS = 1024 };
-
-static uint64_t answer(unsigned number, unsigned counted, size_t place, size_t high)
-{
-    return number | (uint64_t)counted << 8 | (uint64_t)place << 16 | (uint64_t)high << 32;
-}
 
 /* ---- Numbers to strings. Each function writes from the right, up to end, and gives the length. */
 
@@ -74,22 +68,27 @@ static size_t put_by_bytes(uint8_t *end, uint32_t call, uint32_t value)
     }
 }
 
-static uint64_t convert(uint32_t call, uint32_t value, uint8_t *buf, size_t room)
+static struct nos_answer refused_conversion(unsigned number, size_t need, size_t room)
+{
+    return (struct nos_answer){.number = number, .need = need, .free = room};
+}
+
+static struct nos_answer convert(uint32_t call, uint32_t value, uint8_t *buf, size_t room)
 {
     static const uint8_t hex_digits[] = {1, 2, 4, 6, 8};
     uint8_t string[40], *end = string + sizeof string;
     size_t length;
     call &= ~0x20000u;
     if (call == NOS_DECIMAL) call = NOS_SIGNED_4;
-    if (call < NOS_HEX_1 || call > NOS_SPACED_SIGNED_4) return answer(NOS_UNKNOWN_CALL, 0, 0, 0);
+    if (call < NOS_HEX_1 || call > NOS_SPACED_SIGNED_4) return refused_conversion(NOS_UNKNOWN_CALL, 0, room);
     if (call <= NOS_HEX_8)
         length = put_fixed(end, value, hex_digits[call - NOS_HEX_1], 4);
     else
         length = put_by_bytes(end, call, value);
-    if (room <= length) return answer(NOS_NO_ROOM, 0, 0, length + 1);
+    if (room <= length) return refused_conversion(NOS_NO_ROOM, length + 1, room);
     memcpy(buf, end - length, length);
     buf[length] = 0;
-    return answer(0, 0, length, length + 1);
+    return (struct nos_answer){.place = length, .need = length + 1, .free = room - length};
 }
 
 /* ---- The unsigned reader. */
@@ -123,9 +122,14 @@ static size_t skip_spaces(const uint8_t *text, size_t length, size_t at)
     return at;
 }
 
-static uint64_t read_unsigned(const uint8_t *text, size_t length, uint32_t whole, uint32_t limit)
+static struct nos_number refused_number(unsigned number, size_t place)
 {
-    if (length > NOS_LONGEST) return answer(NOS_OVER_LENGTH, 0, 0, 0);
+    return (struct nos_number){.number = number, .place = place};
+}
+
+static struct nos_number read_unsigned(const uint8_t *text, size_t length, uint32_t whole, uint32_t limit)
+{
+    if (length > NOS_LONGEST) return refused_number(NOS_OVER_LENGTH, 0);
     size_t start = skip_spaces(text, length, 0), first = start, at = start;
     uint64_t value;
     if (at < length && text[at] == '&') {
@@ -134,16 +138,16 @@ static uint64_t read_unsigned(const uint8_t *text, size_t length, uint32_t whole
     } else {
         value = read_digits(text, length, &at, 10);
         if (at > first && at < length && text[at] == '_') {
-            if (value < 2 || value > 36) return answer(NOS_BAD_BASE, 0, start, 0);
+            if (value < 2 || value > 36) return refused_number(NOS_BAD_BASE, start);
             first = ++at;
             value = read_digits(text, length, &at, (unsigned)value);
         }
     }
-    if (at == first) return answer(NOS_NO_DIGIT, 0, at, 0);
-    if (value >> 32) return answer(NOS_TOO_BIG, 0, start, 0);
-    if (whole && at < length && text[at] > 32) return answer(NOS_NOT_ENDED, 0, at, 0);
-    if (value > limit) return answer(NOS_OVER_LIMIT, 0, start, 0);
-    return answer(0, 0, at, (size_t)value);
+    if (at == first) return refused_number(NOS_NO_DIGIT, at);
+    if (value >> 32) return refused_number(NOS_TOO_BIG, start);
+    if (whole && at < length && text[at] > 32) return refused_number(NOS_NOT_ENDED, at);
+    if (value > limit) return refused_number(NOS_OVER_LIMIT, start);
+    return (struct nos_number){.value = (uint32_t)value, .place = at};
 }
 
 /* ---- Variables. The check leaves an index of the records behind, which look-ups use. */
@@ -192,21 +196,21 @@ static size_t read_record(const uint8_t *at, size_t length, struct record *r)
     return all;
 }
 
-static uint64_t index_table(struct table *t, const uint8_t *table, size_t length)
+static struct nos_checked index_table(struct table *t, const uint8_t *table, size_t length)
 {
     t->count = 0;
-    if (length > NOS_LONGEST) return answer(NOS_OVER_LENGTH, 1, 0, 0);
+    if (length > NOS_LONGEST) return (struct nos_checked){.number = NOS_OVER_LENGTH};
     for (size_t at = 0; at < length;) {
         struct record r;
         size_t size = t->count < MOST_RECORDS ? read_record(table + at, length - at, &r) : 0;
-        if (size == 0 || find(t, r.name, r.name_length)) return answer(NOS_BAD_TABLE, 1, at, 0);
+        if (size == 0 || find(t, r.name, r.name_length)) return (struct nos_checked){.number = NOS_BAD_TABLE, .place = at};
         t->records[t->count++] = r;
         at += size;
     }
-    return answer(0, 1, 0, t->count);
+    return (struct nos_checked){.records = (uint32_t)t->count};
 }
 
-static uint64_t check_table(const uint8_t *table, size_t length)
+static struct nos_checked check_table(const uint8_t *table, size_t length)
 {
     struct table t;
     return index_table(&t, table, length);
@@ -331,11 +335,11 @@ static unsigned give_reference(struct work *w, struct reading *r, unsigned depth
     while (is_name_byte(peek(r, end))) end++;
     size_t length = end - r->at - 1;
     if (length == 0 || peek(r, end) != '>') return NOS_BAD_REFERENCE;
-    uint64_t read = read_unsigned(content, length, 1, NOS_NO_LIMIT);
-    if (nos_number(read) == 0) {
-        give(w, (uint8_t)nos_value(read));
+    struct nos_number read = read_unsigned(content, length, 1, NOS_NO_LIMIT);
+    if (read.number == 0) {
+        give(w, (uint8_t)read.value);
     } else {
-        if (nos_number(read) == NOS_TOO_BIG) return NOS_TOO_BIG;
+        if (read.number == NOS_TOO_BIG) return NOS_TOO_BIG;
         const struct record *v = find(w->table, content, length);
         if (!v) return NOS_UNKNOWN_NAME;
         number = give_variable(w, v, depth);
@@ -410,21 +414,26 @@ static unsigned expand(struct work *w, struct reading *r, unsigned depth)
     return read_on(w, r, depth);
 }
 
-static uint64_t translate(const uint8_t *text, size_t length, const uint8_t *table, size_t table_length, uint32_t flags,
-                          uint32_t allowance, uint8_t *out, size_t room)
+static struct nos_answer refused_text(unsigned number, unsigned counted, size_t place, size_t need, size_t room)
+{
+    return (struct nos_answer){number, counted, place, need, room};
+}
+
+static struct nos_answer translate(const uint8_t *text, size_t length, const uint8_t *table, size_t table_length, uint32_t flags,
+                                   uint32_t allowance, uint8_t *out, size_t room)
 {
     struct table t;
-    if (length > NOS_LONGEST) return answer(NOS_OVER_LENGTH, 0, 0, 0);
-    uint64_t checked = index_table(&t, table, table_length);
-    if (nos_number(checked)) return checked;
+    if (length > NOS_LONGEST) return refused_text(NOS_OVER_LENGTH, NOS_IN_THE_TEXT, 0, 0, room);
+    struct nos_checked checked = index_table(&t, table, table_length);
+    if (checked.number) return refused_text(checked.number, NOS_IN_THE_TABLE, checked.place, 0, room);
     unsigned left = allowance < MOST_LOOK_UPS ? allowance : MOST_LOOK_UPS;
     struct work measure = {.table = &t, .left = left}, write = {.table = &t, .left = left, .out = out};
     struct reading first = {.text = text, .length = length, .flags = flags}, second = first;
     unsigned number = expand(&measure, &first, 0);
-    if (number) return answer(number, 0, first.at, 0);
-    if (measure.need > room) return answer(NOS_NO_ROOM, 0, 0, measure.need);
+    if (number) return refused_text(number, NOS_IN_THE_TEXT, first.at, 0, room);
+    if (measure.need > room) return refused_text(NOS_NO_ROOM, NOS_IN_THE_TEXT, 0, measure.need, room);
     if (measure.need) expand(&write, &second, 0);
-    return answer(0, 0, first.at, measure.need);
+    return (struct nos_answer){.place = first.at, .need = measure.need, .free = room - measure.need};
 }
 
 /* ---- Expressions: recursive descent with one token of look-ahead. What the evaluation meets waits until the syntax is known. */
@@ -492,11 +501,11 @@ static void read_word(struct parser *p)
 static void read_number(struct parser *p)
 {
     struct token *t = &p->token;
-    uint64_t read = read_unsigned(p->text + t->place, p->length - t->place, 0, NOS_NO_LIMIT);
-    t->number = nos_number(read);
+    struct nos_number read = read_unsigned(p->text + t->place, p->length - t->place, 0, NOS_NO_LIMIT);
+    t->number = read.number;
     t->kind = t->number ? BAD_NUMBER : NUMBER;
-    t->value = nos_value(read);
-    t->next = t->place + nos_place(read);
+    t->value = read.value;
+    t->next = t->place + read.place;
 }
 
 static void read_relation(struct parser *p, uint8_t c, uint8_t d)
@@ -667,20 +676,25 @@ static uint32_t expression(struct parser *p, unsigned level, unsigned depth)
     return left;
 }
 
-static uint64_t evaluate(const uint8_t *text, size_t length, const uint8_t *table, size_t table_length, uint32_t allowance)
+static struct nos_value refused_expression(unsigned number, unsigned counted, size_t place)
+{
+    return (struct nos_value){.number = number, .counted = counted, .place = place};
+}
+
+static struct nos_value evaluate(const uint8_t *text, size_t length, const uint8_t *table, size_t table_length, uint32_t allowance)
 {
     struct table t;
-    if (length > NOS_LONGEST) return answer(NOS_OVER_LENGTH, 0, 0, 0);
-    uint64_t checked = index_table(&t, table, table_length);
-    if (nos_number(checked)) return checked;
+    if (length > NOS_LONGEST) return refused_expression(NOS_OVER_LENGTH, NOS_IN_THE_TEXT, 0);
+    struct nos_checked checked = index_table(&t, table, table_length);
+    if (checked.number) return refused_expression(checked.number, NOS_IN_THE_TABLE, checked.place);
     struct parser p = {.text = text, .length = length, .table = &t};
     p.left = allowance < MOST_LOOK_UPS ? allowance : MOST_LOOK_UPS;
     read_token(&p, 0);
     uint32_t value = expression(&p, LOOSEST, 0);
     if (!p.wrong && p.token.kind != END) wrong(&p, NOS_BAD_EXPRESSION, p.token.place);
-    if (p.wrong) return answer(p.wrong, 0, p.wrong_place, 0);
-    if (p.refused) return answer(p.refused, 0, p.refused_place, 0);
-    return answer(0, 0, p.token.place, value);
+    if (p.wrong) return refused_expression(p.wrong, NOS_IN_THE_TEXT, p.wrong_place);
+    if (p.refused) return refused_expression(p.refused, NOS_IN_THE_TEXT, p.refused_place);
+    return (struct nos_value){.place = p.token.place, .value = (int32_t)value};
 }
 
 const struct calls PLAIN_NAME = {

@@ -1,6 +1,5 @@
 /* What a C programmer would call for the same work, over the same inputs: snprintf, strtoul, memcpy, and a hash of names. */
 #include "inputs.h"
-#include "nosgoludd.h"
 
 #include <stdio.h>
 #include <stdlib.h>
@@ -30,8 +29,8 @@ uint64_t by_snprintf(struct input *in)
 {
     uint64_t sum = 0;
     for (size_t i = 0; i < in->count; i++) {
-        uint64_t length = (uint64_t)print((char *)in->out + i * SLOT, in->items[i].call, in->items[i].value);
-        sum = sum * 31 + (length << 16 | (length + 1) << 32);
+        size_t length = (size_t)print((char *)in->out + i * SLOT, in->items[i].call, in->items[i].value);
+        sum = sum * 31 + sum_of_answer((struct nos_answer){.place = length, .need = length + 1, .free = SLOT - length});
     }
     return sum;
 }
@@ -42,9 +41,9 @@ uint64_t by_strtoul(struct input *in)
     for (size_t i = 0; i < in->count; i++) {
         const char *start = (const char *)in->text + in->items[i].start;
         char *end;
-        uint64_t value = *start == '&' ? strtoul(start + 1, &end, 16) : strtoul(start, &end, 10);
+        unsigned long value = *start == '&' ? strtoul(start + 1, &end, 16) : strtoul(start, &end, 10);
         if (*start != '&' && *end == '_') value = strtoul(end + 1, &end, (int)value);
-        sum = sum * 31 + ((uint64_t)(end - start) << 16 | value << 32);
+        sum = sum * 31 + sum_of_number((struct nos_number){.value = (uint32_t)value, .place = (size_t)(end - start)});
     }
     return sum;
 }
@@ -52,10 +51,10 @@ uint64_t by_strtoul(struct input *in)
 uint64_t by_memcpy(struct input *in)
 {
     memcpy(in->out, in->text, in->length);
-    return (uint64_t)in->length << 16 | (uint64_t)in->length << 32;
+    return sum_of_answer((struct nos_answer){.place = in->length, .need = in->length, .free = sizeof in->out - in->length});
 }
 
 uint64_t by_hash(struct input *in)
 {
-    return hashed_check_table(in->table, in->table_length);
+    return sum_of_checked(hashed_check_table(in->table, in->table_length));
 }
