@@ -151,8 +151,8 @@ static void read_unsigned(void)
         FAILS("256, bit 30", X + 0x21, "256 ", TEXT, BIT_30, TEXT, 0, 6, 0, "Bad number"),
         {"100, bit 29, R2 100", 0x21, "100 ", TEXT, BIT_29, TEXT, 100, DONE, BIT_29, TEXT + 3, 100, 0, NULL, 0, 0},
         FAILS("101, bit 29, R2 100", 0x21, "101 ", TEXT, BIT_29, TEXT, 100, 6, 0, "Number too big"),
-        {"255, bits 29 and 30, R2 300", 0x21, "255 ", TEXT, BIT_29 | BIT_30, TEXT, 300, DONE, BIT_29 | BIT_30, TEXT + 3, 255, 0, NULL,
-         0, 0},
+        {"255, bits 29 and 30, R2 300", 0x21, "255 ", TEXT, BIT_29 | BIT_30, TEXT, 300, DONE, BIT_29 | BIT_30, TEXT + 3, 255, 0,
+         NULL, 0, 0},
         FAILS("256, bits 29 and 30, R2 300", X + 0x21, "256 ", TEXT, BIT_29 | BIT_30, TEXT, 300, 6, 0, "Bad number"),
         FAILS("301, bits 29 and 30, R2 300", X + 0x21, "301 ", TEXT, BIT_29 | BIT_30, TEXT, 300, 6, 0, "Number too big"),
         FAILS("101, bits 29 and 30, R2 100", 0x21, "101 ", TEXT, BIT_29 | BIT_30, TEXT, 100, 6, 0, "Number too big"),
@@ -280,7 +280,9 @@ static void others(void)
 {
     static const uint32_t swis[] = {0x00, 0x20, 0x22, 0x26, 0x29, 0x2C, 0x2E, 0xCF, 0xE9, X + 0xE9, 0x400D8, 0x10027, 0xFFFFFF};
     for (size_t i = 0; i < sizeof swis / sizeof swis[0]; i++) {
-        const struct test list[] = {{"another call", swis[i], "1\r", TEXT, TEXT, BUFFER, 64, {NOT_MINE, 0, 0, {0, ""}}, 0, 0, 0, 0, NULL, 0, 0}};
+        const struct test list[] = {
+            {"another call", swis[i], "1\r", TEXT, TEXT, BUFFER, 64, {NOT_MINE, 0, 0, {0, ""}}, 0, 0, 0, 0, NULL, 0, 0},
+        };
         RUN(list);
     }
 }
