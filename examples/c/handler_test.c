@@ -151,6 +151,7 @@ static void read_unsigned(void)
         FAILS("256, bit 30", X + 0x21, "256 ", TEXT, BIT_30, TEXT, 0, 6, 0, "Bad number"),
         {"100, bit 29, R2 100", 0x21, "100 ", TEXT, BIT_29, TEXT, 100, DONE, BIT_29, TEXT + 3, 100, 0, NULL, 0, 0},
         FAILS("101, bit 29, R2 100", 0x21, "101 ", TEXT, BIT_29, TEXT, 100, 6, 0, "Number too big"),
+        {"256, bit 29, R2 300", 0x21, "256 ", TEXT, BIT_29, TEXT, 300, DONE, BIT_29, TEXT + 3, 256, 0, NULL, 0, 0},
         {"255, bits 29 and 30, R2 300", 0x21, "255 ", TEXT, BIT_29 | BIT_30, TEXT, 300, DONE, BIT_29 | BIT_30, TEXT + 3, 255, 0,
          NULL, 0, 0},
         FAILS("256, bits 29 and 30, R2 300", X + 0x21, "256 ", TEXT, BIT_29 | BIT_30, TEXT, 300, 6, 0, "Bad number"),
