@@ -10,7 +10,7 @@
 
 enum { SHEET = 33 }; /* the most that any call needs */
 
-static uint8_t sheet[MARGIN + SHEET + MARGIN];
+static uint8_t sheet[2 * MARGIN + SHEET];
 uint8_t diary[DIARY];
 static uint8_t as_it_was[DIARY];
 

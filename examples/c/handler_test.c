@@ -314,9 +314,9 @@ static void hosts(void)
     machine.table = NULL;
     machine.table_length = 0;
     run(&machine, &empty, 1);
-    machine.error_at = SIZE - ERROR_ROOM + 1;
+    machine.error_at = (uint32_t)SIZE - ERROR_ROOM + 1;
     run(&machine, no_block, 2);
-    machine.error_at = SIZE - ERROR_ROOM;
+    machine.error_at = (uint32_t)SIZE - ERROR_ROOM;
     run(&machine, &at_the_end, 1);
 }
 
@@ -335,7 +335,7 @@ static void long_strings(void)
 {
     enum { NUMBER = NOS_LONGEST - 4, LAST = 0x1F000 };
     static const struct test list[] = {
-        {"65530 spaces and 7", 0x21, NULL, 0, 10, TEXT, 0, DONE, 10, TEXT + NUMBER, 7, 0, NULL, 0, 0},
+        {"65530 spaces and 7", 0x21, NULL, 0, 10, TEXT, 0, DONE, 10, (uint32_t)TEXT + NUMBER, 7, 0, NULL, 0, 0},
         FAILS("65531 spaces and 7", 0x21, NULL, 0, 10, TEXT, 0, 18, 0, LONG),
         {"65535 spaces", 0x27, NULL, 0, TEXT, LAST, 1, DONE, TEXT + NOS_LONGEST + 1, LAST, 0, 0, "\r", LAST, 1},
         FAILS("65536 spaces", 0x27, NULL, 0, TEXT, LAST, 1, 18, 0, LONG),

@@ -21,7 +21,7 @@ static const char *const kinds[] = {"a string", "an integer", "a macro"};
 
 static uint8_t table[128];
 static size_t table_length;
-static uint8_t slip[MARGIN + SLIP + MARGIN];
+static uint8_t slip[2 * MARGIN + SLIP];
 static uint8_t longest[NOS_LONGEST + 1];
 
 static const uint8_t *bytes_of(const char *text) { return (const uint8_t *)text; }
