@@ -22,10 +22,15 @@ extern const struct calls plain_by_clang, plain_by_gcc;
 struct nos_checked hashed_check_table(const uint8_t *table, size_t length);
 
 /* A number that every field of an answer goes into, for the sum of a pass. Its low 16 bits are 0 where the answer is accepted. */
-static inline uint64_t sum_of(uint32_t number, size_t place, uint64_t other) { return number ^ (uint64_t)place << 16 ^ other << 32; }
-static inline uint64_t sum_of_answer(struct nos_answer a) { return sum_of(a.number, a.place, a.need ^ (uint64_t)a.free << 12 ^ a.counted); }
+static inline uint64_t sum_of(uint32_t number, uint64_t place, uint64_t other) { return number ^ place << 16 ^ other << 32; }
+
+static inline uint64_t sum_of_answer(struct nos_answer a)
+{
+    return sum_of(a.number, a.place, a.counted ^ a.need ^ (uint64_t)a.free << 12);
+}
+
 static inline uint64_t sum_of_number(struct nos_number a) { return sum_of(a.number, a.place, a.value); }
 static inline uint64_t sum_of_checked(struct nos_checked a) { return sum_of(a.number, a.place, a.records); }
-static inline uint64_t sum_of_value(struct nos_value a) { return sum_of(a.number, a.place, (uint32_t)a.value ^ (uint64_t)a.counted); }
+static inline uint64_t sum_of_value(struct nos_value a) { return sum_of(a.number, a.place, a.counted ^ (uint32_t)a.value); }
 
 #endif

@@ -95,8 +95,8 @@ void check_changed(const struct work *w, struct input *in, const struct calls *c
             const char *what = difference(&first, &other);
             if (!what) continue;
             fprintf(stderr, "%s: %s and %s differ in %s over a changed input:\n", w->name, sets[0]->name, sets[s]->name, what);
-            fprintf(stderr, "  call %x value %x room %zu flags %x allowance %u text %.*s\n", a.call, a.value, a.room, a.flags, a.allowance,
-                    (int)a.length, (const char *)a.text);
+            fprintf(stderr, "  call %x value %x room %zu flags %x allowance %u text %.*s\n", a.call, a.value, a.room, a.flags,
+                    a.allowance, (int)a.length, (const char *)a.text);
             exit(1);
         }
     }

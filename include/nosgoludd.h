@@ -7,7 +7,8 @@
  *
  * Link libnosgoludd.a: x86-64 Linux, and all it needs is memcpy and memset of the C library. The functions are proved to give
  * these answers for every input. They keep nothing between calls, allocate nothing and always return, so threads may call them at
- * once. A call takes at most NOS_STACK bytes of stack.
+ * once. A call takes at most NOS_STACK bytes of stack: what the archive's code adds up to along its deepest calls, and at least a
+ * third of that more, for memcpy, memset and the linker; tests/stack adds it up, and measures it over the deepest inputs.
  *
  * What the proof asks of you: a pointer points to as many bytes as the room or length behind it says, which may be read, and for
  * buf and out written. Nothing else (a thread, a shared mapping) writes any of them before the call returns, nor reads those of
@@ -28,6 +29,10 @@
 
 #include <stddef.h>
 #include <stdint.h>
+
+#define NOS_STACK 40960u          /* the most bytes of stack that a call takes */
+#define NOS_LONGEST 65535u        /* the longest text or table that is read, in bytes */
+#define NOS_NO_LIMIT 4294967295u  /* a limit that refuses nothing */
 
 #ifdef __cplusplus
 extern "C" {
@@ -160,10 +165,6 @@ enum nos_call {
  *   nos_convert(NOS_UNSIGNED_1, 1048576, buf, 2)    "0": the low byte alone is used
  */
 struct nos_answer nos_convert(uint32_t call, uint32_t value, uint8_t *buf, size_t room);
-
-#define NOS_STACK 49152u          /* the most bytes of stack that a call takes */
-#define NOS_LONGEST 65535u        /* the longest text or table that is read, in bytes */
-#define NOS_NO_LIMIT 4294967295u  /* a limit that refuses nothing */
 
 /* Reads one unsigned number at the start of a text. Spaces (byte 32 alone) are skipped; then stands
  *

@@ -10,7 +10,7 @@
 
 enum { SHEET = 33 }; /* the most that any call needs */
 
-static uint8_t sheet[MARGIN + SHEET + MARGIN];
+static uint8_t sheet[2 * MARGIN + SHEET];
 uint8_t diary[DIARY];
 static uint8_t as_it_was[DIARY];
 
@@ -60,7 +60,7 @@ static struct nos_answer convert(uint32_t call, uint32_t value, uint8_t *paper, 
         check(memchr(paper + at, 0, written) == paper + at + answer.place, "the first zero byte is at the place");
     } else {
         check(answer.place == 0 && answer.free == room, "a refused conversion has the place 0, and the whole room is free");
-        check(answer.number == NOS_NO_ROOM ? answer.need > room : answer.need == 0, "a need is over the room; other refusals have none");
+        check(answer.number == NOS_NO_ROOM ? answer.need > room : answer.need == 0, "a need is over the room; others have none");
     }
     check_the_rest(paper, size, at, written);
     return answer;

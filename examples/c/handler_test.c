@@ -151,8 +151,9 @@ static void read_unsigned(void)
         FAILS("256, bit 30", X + 0x21, "256 ", TEXT, BIT_30, TEXT, 0, 6, 0, "Bad number"),
         {"100, bit 29, R2 100", 0x21, "100 ", TEXT, BIT_29, TEXT, 100, DONE, BIT_29, TEXT + 3, 100, 0, NULL, 0, 0},
         FAILS("101, bit 29, R2 100", 0x21, "101 ", TEXT, BIT_29, TEXT, 100, 6, 0, "Number too big"),
-        {"255, bits 29 and 30, R2 300", 0x21, "255 ", TEXT, BIT_29 | BIT_30, TEXT, 300, DONE, BIT_29 | BIT_30, TEXT + 3, 255, 0, NULL,
-         0, 0},
+        {"256, bit 29, R2 300", 0x21, "256 ", TEXT, BIT_29, TEXT, 300, DONE, BIT_29, TEXT + 3, 256, 0, NULL, 0, 0},
+        {"255, bits 29 and 30, R2 300", 0x21, "255 ", TEXT, BIT_29 | BIT_30, TEXT, 300, DONE, BIT_29 | BIT_30, TEXT + 3, 255, 0,
+         NULL, 0, 0},
         FAILS("256, bits 29 and 30, R2 300", X + 0x21, "256 ", TEXT, BIT_29 | BIT_30, TEXT, 300, 6, 0, "Bad number"),
         FAILS("301, bits 29 and 30, R2 300", X + 0x21, "301 ", TEXT, BIT_29 | BIT_30, TEXT, 300, 6, 0, "Number too big"),
         FAILS("101, bits 29 and 30, R2 100", 0x21, "101 ", TEXT, BIT_29 | BIT_30, TEXT, 100, 6, 0, "Number too big"),
@@ -280,7 +281,9 @@ static void others(void)
 {
     static const uint32_t swis[] = {0x00, 0x20, 0x22, 0x26, 0x29, 0x2C, 0x2E, 0xCF, 0xE9, X + 0xE9, 0x400D8, 0x10027, 0xFFFFFF};
     for (size_t i = 0; i < sizeof swis / sizeof swis[0]; i++) {
-        const struct test list[] = {{"another call", swis[i], "1\r", TEXT, TEXT, BUFFER, 64, {NOT_MINE, 0, 0, {0, ""}}, 0, 0, 0, 0, NULL, 0, 0}};
+        const struct test list[] = {
+            {"another call", swis[i], "1\r", TEXT, TEXT, BUFFER, 64, {NOT_MINE, 0, 0, {0, ""}}, 0, 0, 0, 0, NULL, 0, 0},
+        };
         RUN(list);
     }
 }
@@ -311,9 +314,9 @@ static void hosts(void)
     machine.table = NULL;
     machine.table_length = 0;
     run(&machine, &empty, 1);
-    machine.error_at = SIZE - ERROR_ROOM + 1;
+    machine.error_at = (uint32_t)SIZE - ERROR_ROOM + 1;
     run(&machine, no_block, 2);
-    machine.error_at = SIZE - ERROR_ROOM;
+    machine.error_at = (uint32_t)SIZE - ERROR_ROOM;
     run(&machine, &at_the_end, 1);
 }
 
@@ -332,7 +335,7 @@ static void long_strings(void)
 {
     enum { NUMBER = NOS_LONGEST - 4, LAST = 0x1F000 };
     static const struct test list[] = {
-        {"65530 spaces and 7", 0x21, NULL, 0, 10, TEXT, 0, DONE, 10, TEXT + NUMBER, 7, 0, NULL, 0, 0},
+        {"65530 spaces and 7", 0x21, NULL, 0, 10, TEXT, 0, DONE, 10, (uint32_t)TEXT + NUMBER, 7, 0, NULL, 0, 0},
         FAILS("65531 spaces and 7", 0x21, NULL, 0, 10, TEXT, 0, 18, 0, LONG),
         {"65535 spaces", 0x27, NULL, 0, TEXT, LAST, 1, DONE, TEXT + NOS_LONGEST + 1, LAST, 0, 0, "\r", LAST, 1},
         FAILS("65536 spaces", 0x27, NULL, 0, TEXT, LAST, 1, 18, 0, LONG),

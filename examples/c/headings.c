@@ -21,7 +21,7 @@ static const char *const kinds[] = {"a string", "an integer", "a macro"};
 
 static uint8_t table[128];
 static size_t table_length;
-static uint8_t slip[MARGIN + SLIP + MARGIN];
+static uint8_t slip[2 * MARGIN + SLIP];
 static uint8_t longest[NOS_LONGEST + 1];
 
 static const uint8_t *bytes_of(const char *text) { return (const uint8_t *)text; }
@@ -112,7 +112,7 @@ static struct nos_variable expect_not_found(const char *name, const uint8_t *in,
 {
     struct nos_variable answer = nos_look_up(bytes_of(name), name == NULL ? 0 : strlen(name), in, length);
     check(answer.number == number && answer.place == place, "it is not found");
-    check(answer.counted == (number == NOS_UNKNOWN_NAME ? NOS_IN_THE_TEXT : NOS_IN_THE_TABLE), "only a bad table has its place there");
+    check(answer.counted == (number == NOS_UNKNOWN_NAME ? NOS_IN_THE_TEXT : NOS_IN_THE_TABLE), "a bad table's place is there");
     check(answer.kind == 0 && answer.start == 0 && answer.length == 0, "a refusal has no value");
     return answer;
 }

@@ -1,0 +1,170 @@
+/* Measures how much stack a call of the library takes: each one runs on a stack of its own, filled with a known byte, and the lowest
+ * byte that changed tells. The inputs are the deepest that there are: macros in macros and brackets in brackets, 16 of them, around
+ * what each level can hold. Ends with status 1 where more than NOS_STACK was taken. tests/stack runs it. */
+#define _GNU_SOURCE
+#include <inttypes.h>
+#include <stdio.h>
+#include <stdlib.h>
+#include <string.h>
+#include <sys/mman.h>
+#include <ucontext.h>
+
+#include "nosgoludd.h"
+
+enum { STACK = 1 << 20, FILL = 0xA5, DEEPEST = 16 };
+
+static uint8_t *stack, table[NOS_LONGEST], out[1 << 19];
+static char text[NOS_LONGEST];
+static size_t table_length, most;
+static ucontext_t here, there;
+static void (*current)(void);
+
+static void run_current(void) { current(); }
+
+/* Runs a call on the filled stack; the bytes that it took, with the few that lead to it. */
+static size_t taken_by(void (*call)(void))
+{
+    current = call;
+    memset(stack, FILL, STACK);
+    if (getcontext(&there)) exit(2);
+    there.uc_stack.ss_sp = stack;
+    there.uc_stack.ss_size = STACK;
+    there.uc_link = &here;
+    makecontext(&there, run_current, 0);
+    if (swapcontext(&here, &there)) exit(2);
+    size_t low = 0;
+    while (low < STACK && stack[low] == FILL) low++;
+    return STACK - low;
+}
+
+static void measure(const char *what, void (*call)(void))
+{
+    size_t taken = taken_by(call);
+    printf("%-60s %6zu\n", what, taken);
+    if (taken > most) most = taken;
+}
+
+static void expect(uint32_t number, uint32_t wanted)
+{
+    if (number == wanted) return;
+    printf("OFF: refused %" PRIu32 ", %s\n", number, nos_words(number));
+    exit(1);
+}
+
+static void nothing(void) {}
+
+static void conversions(void)
+{
+    for (uint32_t call = NOS_HEX_1; call <= NOS_SPACED_SIGNED_4; call++) expect(nos_convert(call, 1u << 31, out, 64).number, 0);
+    expect(nos_convert(NOS_BINARY_4, 0, out, 32).number, NOS_NO_ROOM);
+}
+
+static void readings(void)
+{
+    static const char *const numbers[] = {"  36_Zzzzz", "&FFFFFFFF", "4294967295", "4294967296", "37_1", "_"};
+    for (size_t i = 0; i < sizeof numbers / sizeof numbers[0]; i++)
+        nos_read_unsigned((const uint8_t *)numbers[i], strlen(numbers[i]), 1, 7);
+}
+
+static void add_record(uint8_t kind, const char *name, const char *value, size_t length)
+{
+    const uint8_t head[] = {86, 82, kind, (uint8_t)strlen(name), (uint8_t)length};
+    memcpy(table + table_length, head, 5);
+    memcpy(table + table_length + 5, name, head[3]);
+    memcpy(table + table_length + 5 + head[3], value, length);
+    table_length += 5u + head[3] + length;
+}
+
+/* Macros m0 to m16, each naming the one before it, a string, an integer, and names alike up to 256 records. */
+static void make_table(void)
+{
+    char name[33], value[256];
+    add_record(NOS_STRING, "s", "a string of some length, to be copied", 37);
+    add_record(NOS_INTEGER, "i", "\x00\x00\x00\x80", 4);
+    add_record(NOS_MACRO, "m0", "\"a |!|@ <s> \"\"<i> <65> <2_1000001> rows of rye\"", 47);
+    for (int i = 1; i <= DEEPEST; i++) {
+        sprintf(name, "m%d", i);
+        sprintf(value, "\"a |!|@ <s><i><36_Z> and so on with more than sixteen bytes<m%d>\"\"|?\"", i - 1);
+        add_record(NOS_MACRO, name, value, strlen(value));
+    }
+    for (int i = 3 + DEEPEST; i < 256; i++) {
+        sprintf(name, "Certified$Fields$Diary$Entry%04d", i);
+        add_record(NOS_STRING, name, "v", 1);
+    }
+}
+
+static void check(void) { expect(nos_check_table(table, table_length).number, 0); }
+
+static void look_up(void)
+{
+    expect(nos_look_up((const uint8_t *)"CERTIFIED$Fields$Diary$Entry0255", 32, table, table_length).number, 0);
+    expect(nos_look_up((const uint8_t *)"nobody", 6, table, table_length).number, NOS_UNKNOWN_NAME);
+}
+
+static uint32_t translated(const char *of, uint32_t flags, uint32_t allowance, size_t room)
+{
+    return nos_translate((const uint8_t *)of, strlen(of), table, table_length, flags, allowance, out, room).number;
+}
+
+static void translations(void)
+{
+    expect(translated("<m15>", 0, 1024, sizeof out), 0);
+    expect(translated("\"a <m15> |! <m15>\"", NOS_SPACE_ENDS, 1024, sizeof out), 0);
+    expect(translated("<m15>", 0, 1024, 9), NOS_NO_ROOM);
+    expect(translated("<m15>", 0, 40, sizeof out), NOS_ALLOWANCE_SPENT);
+    expect(translated("<m16>", 0, 1024, sizeof out), NOS_TOO_DEEP);
+}
+
+static uint32_t evaluated(void)
+{
+    return nos_evaluate((const uint8_t *)text, strlen(text), table, table_length, 1024).number;
+}
+
+/* A part so many times, what stands inside, and its close as many times. */
+static void nest(const char *part, int times, const char *inside, const char *close)
+{
+    text[0] = 0;
+    for (int i = 0; i < times; i++) strcat(text, part);
+    strcat(text, inside);
+    for (int i = 0; i < times; i++) strcat(text, close);
+}
+
+static void brackets(void)
+{
+    static const char *const insides[] = {"7", "i", "36_Zz", "1/(2-2)", "nobody"};
+    nest("1 OR 2 AND 3 = 4 + 5 * (", DEEPEST, "i", ") MOD 7 - 2 >>> 1 AND 4 EOR 3");
+    expect(evaluated(), 0);
+    nest("(", DEEPEST, "1 OR 2 AND 3 <> 4 + 5 * i", ")");
+    expect(evaluated(), 0);
+    nest("(", DEEPEST + 1, "1", ")");
+    expect(evaluated(), NOS_TOO_DEEP);
+    for (size_t i = 0; i < sizeof insides / sizeof insides[0]; i++) {
+        nest("i * (", DEEPEST, insides[i], ")");
+        evaluated();
+    }
+}
+
+static void signs(void)
+{
+    nest("-", DEEPEST, "i", "");
+    expect(evaluated(), 0);
+    nest("NOT 1 OR 2 AND 3 = 4 + 5 * -(", DEEPEST / 2, "i", ")");
+    expect(evaluated(), 0);
+}
+
+int main(void)
+{
+    stack = (uint8_t *)mmap(NULL, STACK, PROT_READ | PROT_WRITE, MAP_PRIVATE | MAP_ANONYMOUS, -1, 0);
+    if (stack == MAP_FAILED) return 2;
+    make_table();
+    measure("nothing", nothing);
+    measure("nos_convert", conversions);
+    measure("nos_read_unsigned", readings);
+    measure("nos_check_table, 256 records", check);
+    measure("nos_look_up, 256 records", look_up);
+    measure("nos_translate, 16 macros in one another", translations);
+    measure("nos_evaluate, 16 brackets in one another", brackets);
+    measure("nos_evaluate, 16 signs over one operand", signs);
+    printf("the most is %zu bytes, and NOS_STACK is %u\n", most, NOS_STACK);
+    return most <= NOS_STACK ? 0 : 1;
+}
