@@ -197,8 +197,8 @@ module _ (text table : List ℕ) (flags allowance room : ℕ) where
       in-order text table flags allowance room Numbered (member over-length translateNumbers refl)
       (λ _. listed-over (checked table) (checked-bounded table))
 
--- an answer that the C face can pack
-pub record Packable (a : Answer) : Type 0 where
+-- how far the numbers of an answer go
+pub record Limited (a : Answer) : Type 0 where
   pub number : a .number ≤ 255
   pub place : a .place ≤ longest
   pub need : a .need ≤ 326655
@@ -214,27 +214,27 @@ module _ (text table : List ℕ) (flags allowance room : ℕ) (bs : (k : ℕ) �
   placed-run : {r : Run} → run t (allowed allowance) ≡ r → runPlace r ≤ length text
   placed-run e = subst (λ r. runPlace r ≤ length text) e (run-placed (read-met (namesOf table) 0 text flags .placed) (allowed allowance))
 
-  packable-by : (r : Run) → length text ≤ longest → run t (allowed allowance) ≡ r → Packable (translatedAnswer (translatedBy (fit r (length (bytes t)) room)))
-  packable-by (finished end left) h e =
+  limited-by : (r : Run) → length text ≤ longest → run t (allowed allowance) ≡ r → Limited (translatedAnswer (translatedBy (fit r (length (bytes t)) room)))
+  limited-by (finished end left) h e =
       let w = finished-within t (allowed allowance) end left e in
       let s = short-reading .short end (w .1) in
       let p : end ≤ length text = placed-run e in
-      either (λ a. Packable (translatedAnswer (translatedBy a))) (ltb room (length (bytes t)))
+      either (λ a. Limited (translatedAnswer (translatedBy a))) (ltb room (length (bytes t)))
       (λ _. record { number = omega arith; place = omega arith; need = omega (arith, w .0) })
       (λ _. record { number = omega arith; place = omega arith; need = omega (arith, w .0) })
-  packable-by (refused number place) h e =
+  limited-by (refused number place) h e =
       let n = refused-number t (allowed allowance) number place e in
       let p : place ≤ length text = placed-run e in
-      either (λ r. Packable (translatedAnswer r)) (eqb number 0)
+      either (λ r. Limited (translatedAnswer r)) (eqb number 0)
       (λ _. record { number = omega arith; place = omega arith; need = omega arith })
       (λ _. record { number = omega arith; place = omega arith; need = omega arith })
 
-  packable-over : (d : Checked) → Bounded d → length text ≤ longest → Packable (translatedAnswer (translatedOver (judgedBy d) t allowance room))
-  packable-over (Good count) b h = packable-by (run t (allowed allowance)) h refl
-  packable-over (BadTable number at) b h = record { number = b .number; place = b .place; need = omega arith }
+  limited-over : (d : Checked) → Bounded d → length text ≤ longest → Limited (translatedAnswer (translatedOver (judgedBy d) t allowance room))
+  limited-over (Good count) b h = limited-by (run t (allowed allowance)) h refl
+  limited-over (BadTable number at) b h = record { number = b .number; place = b .place; need = omega arith }
 
-  pub translated-packable : Packable (translatedAnswer (translated text table flags allowance room))
-  translated-packable =
-      in-order text table flags allowance room (λ r. Packable (translatedAnswer r))
+  pub translated-limited : Limited (translatedAnswer (translated text table flags allowance room))
+  translated-limited =
+      in-order text table flags allowance room (λ r. Limited (translatedAnswer r))
       (record { number = omega arith; place = omega arith; need = omega arith })
-      (packable-over (checked table) (checked-bounded table))
+      (limited-over (checked table) (checked-bounded table))
