@@ -84,7 +84,7 @@ binaryValue (Either Or) lhs rhs = bitOr lhs rhs
 binaryValue (Either Eor) lhs rhs = bitXor lhs rhs
 binaryValue Not lhs rhs = 0
 
--- unary minus is 0 less the value; no other operator stands before one operand
+-- before one operand: NOT turns every bit, unary minus is 0 less the value, unary plus the value; no other operator stands there
 abbrev pub unaryValue : Operator → ℕ → ℕ
 unaryValue Not v = bitXor v 4294967295
 unaryValue (Sum Minus) v = difference 0 v

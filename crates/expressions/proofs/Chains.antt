@@ -11,14 +11,16 @@ use Rattle.paper.proofs.Choice.{either}
 use Rattle.variables.specs.Names.{Meaning}
 use Rattle.arithmetic.specs.Operators.{divides}
 use Rattle.tokens.specs.Tokens.{tokenAt}
-use Rattle.expressions.specs.Trees.{Tree, Parsed, tree, faulty, binds, none, linkBy, linkAt, joined, extended, operatorsFrom, levelAt, operandAt}
+use Rattle.parts.specs.Links.{binds, none, linkBy, linkAt}
+use Rattle.expressions.specs.Trees.{Tree, Parsed, tree, faulty, joined, extended, operatorsFrom, levelAt, operandAt}
 use Rattle.expressions.specs.Evaluations.{treeValue, steps}
-use Rattle.expressions.specs.inner.Steps.{partBy, partOf, accountOf, appliedPart, joinedPart, linkBehind}
+use Rattle.parts.specs.inner.Steps.{accountOf, appliedPart, joinedPart, linkBehind}
+use Rattle.expressions.specs.inner.Steps.{partBy, partOf}
 use Rattle.arithmetic.specs.declared.operators.Operator.{Operator}
-use Rattle.expressions.specs.declared.parts.Account.{Account}
-use Rattle.expressions.specs.declared.parts.Account.the-variants.{Open, Refused as RefusedBefore}
-use Rattle.expressions.specs.declared.parts.Part.{Part}
-use Rattle.expressions.specs.declared.parts.Part.the-variants.{Value, Refused, Faulty}
+use Rattle.parts.specs.declared.Account.{Account}
+use Rattle.parts.specs.declared.Account.the-variants.{Open, Refused as RefusedBefore}
+use Rattle.parts.specs.declared.Part.{Part}
+use Rattle.parts.specs.declared.Part.the-variants.{Value, Refused, Faulty}
 use Rattle.tokens.proofs.Places.{past-end}
 use Rattle.expressions.proofs.Onward.{Onward, binds-onward, level-onward, operand-onward}
 use Rattle.expressions.proofs.Joins.{part-link, part-joined}

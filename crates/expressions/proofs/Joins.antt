@@ -10,16 +10,18 @@ use Rattle.paper.specs.declared.faults.Fault.the-variants.{ZeroDivisor}
 use Rattle.variables.specs.Names.{Meaning, unknown, string-of, integer-of, macro-of}
 use Rattle.arithmetic.specs.Operators.{divides}
 use Rattle.tokens.specs.Tokens.{Lexeme, tokenAt}
-use Rattle.expressions.specs.Trees.{Tree, constant, variable, unary, binary, Parsed, tree, faulty, linkAt, joined, covered, closedBy, endedBy, closedTree, endedTree}
+use Rattle.parts.specs.Links.{linkAt}
+use Rattle.expressions.specs.Trees.{Tree, constant, variable, unary, binary, Parsed, tree, faulty, joined, covered, closedBy, endedBy, closedTree, endedTree}
 use Rattle.expressions.specs.Evaluations.{nameSteps, divided, treeValue, steps, evaluation, result}
 use Rattle.expressions.specs.Answers.{evaluatedBy}
-use Rattle.expressions.specs.inner.Steps.{partBy, partOf, accountOf, movedTo, coveredPart, appliedPart, joinedPart, linkBehind, closedPartBy, closedPart, endedPartBy, endedPart, answerOf}
+use Rattle.parts.specs.inner.Steps.{accountOf, movedTo, coveredPart, appliedPart, joinedPart, linkBehind, closedPartBy, closedPart, endedPartBy, endedPart}
+use Rattle.expressions.specs.inner.Steps.{partBy, partOf, answerOf}
 use Rattle.arithmetic.specs.declared.operators.Operator.{Operator}
 use Rattle.tokens.specs.declared.Token.{Token}
 use Rattle.tokens.specs.declared.Token.the-variants.{End, Operator as Operates, Number, FaultyNumber, Name, Open as Bracket, Close, Strange}
-use Rattle.expressions.specs.declared.parts.Account.{Account}
-use Rattle.expressions.specs.declared.parts.Account.the-variants.{Open, Refused as RefusedBefore}
-use Rattle.expressions.specs.declared.parts.Part.the-variants.{Value, Refused}
+use Rattle.parts.specs.declared.Account.{Account}
+use Rattle.parts.specs.declared.Account.the-variants.{Open, Refused as RefusedBefore}
+use Rattle.parts.specs.declared.Part.the-variants.{Value, Refused}
 
 -- behind a run that finished the rest is run with the look-ups left
 abbrev continued : Run → Trace → Run

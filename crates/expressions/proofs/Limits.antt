@@ -20,7 +20,8 @@ use Rattle.variables.proofs.Judging as Judging
 use Rattle.variables.proofs.Bounds.{Bounded as Checks, checked-bounded}
 use Rattle.arithmetic.specs.Operators.{levelOf, loosest, standsAlone, divides}
 use Rattle.tokens.specs.Tokens.{faultOf, tokenAt}
-use Rattle.expressions.specs.Trees.{Tree, constant, variable, unary, binary, Parsed, tree, faulty, Link, binds, none, linkBy, linkAt, joined, covered, extended, closedBy, endedBy, Deeper, operatorsFrom, levelAt, closedTree, operandBy, deepest, oneDeeper, startedIn, operandAt, endedTree, wholeTree}
+use Rattle.parts.specs.Links.{Link, binds, none, linkBy, linkAt}
+use Rattle.expressions.specs.Trees.{Tree, constant, variable, unary, binary, Parsed, tree, faulty, joined, covered, extended, closedBy, endedBy, Deeper, operatorsFrom, levelAt, closedTree, operandBy, deepest, oneDeeper, startedIn, operandAt, endedTree, wholeTree}
 use Rattle.expressions.specs.Evaluations.{nameSteps, divided, treeValue, steps, evaluation}
 use Rattle.expressions.specs.Answers.{readingOf, valueIn, evaluatedBy, evaluatedOver, evaluated, evaluatedNumber, evaluatedPlace, metNumbers, evaluateNumbers}
 use Rattle.expressions.specs.declared.Evaluated.{Evaluated}

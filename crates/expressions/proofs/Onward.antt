@@ -10,7 +10,8 @@ use Rattle.paper.specs.declared.faults.Fault.{Fault}
 use Rattle.paper.proofs.Choice.{either}
 use Rattle.arithmetic.specs.Operators.{levelOf, loosest, standsAlone}
 use Rattle.tokens.specs.Tokens.{tokenAt}
-use Rattle.expressions.specs.Trees.{Tree, Parsed, tree, faulty, Link, binds, none, linkBy, linkAt, joined, covered, extended, closedBy, Deeper, operatorsFrom, levelAt, closedTree, operandBy, deepest, oneDeeper, startedIn, operandAt}
+use Rattle.parts.specs.Links.{Link, binds, none, linkBy, linkAt}
+use Rattle.expressions.specs.Trees.{Tree, Parsed, tree, faulty, joined, covered, extended, closedBy, Deeper, operatorsFrom, levelAt, closedTree, operandBy, deepest, oneDeeper, startedIn, operandAt}
 use Rattle.arithmetic.specs.declared.operators.Operator.{Operator}
 use Rattle.tokens.specs.declared.Token.{Token}
 use Rattle.tokens.specs.declared.Token.the-variants.{End, Operator as Operates, Number, FaultyNumber, Name, Open, Close, Strange}

@@ -11,14 +11,15 @@ use Rattle.arithmetic.specs.Operators.{loosest, standsAlone}
 use Rattle.tokens.specs.Tokens.{Lexeme, tokenAt}
 use Rattle.expressions.specs.Trees.{Parsed, faulty, covered, Deeper, levelAt, closedTree, operandBy, deepest, oneDeeper, operandAt}
 use Rattle.tokens.specs.inner.Steps.{lexemeOf}
-use Rattle.expressions.specs.inner.Steps.{partOf, coveredPart, closedPart}
+use Rattle.parts.specs.inner.Steps.{coveredPart, closedPart}
+use Rattle.expressions.specs.inner.Steps.{partOf}
 use Rattle.arithmetic.specs.declared.operators.Operator.{Operator}
 use Rattle.tokens.specs.declared.Lexed.{Lexed}
 use Rattle.tokens.specs.declared.Token.{Token}
 use Rattle.tokens.specs.declared.Token.the-variants.{Operator as Operates, Name, Open}
-use Rattle.expressions.specs.declared.parts.Account.{Account}
-use Rattle.expressions.specs.declared.parts.Part.{Part}
-use Rattle.expressions.specs.declared.parts.Part.the-variants.{Faulty}
+use Rattle.parts.specs.declared.Account.{Account}
+use Rattle.parts.specs.declared.Part.{Part}
+use Rattle.parts.specs.declared.Part.the-variants.{Faulty}
 use Rattle.tokens.proofs.Places.{Takes, Stands, stands}
 use Rattle.expressions.proofs.Joins.{part-covered, part-closed}
 

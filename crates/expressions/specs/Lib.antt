@@ -1,4 +1,4 @@
--- Expressions: tokens, the tree that they make, its evaluation as a trace, the answer.
+-- Expressions: the tree that the tokens make, its evaluation as a trace, the answer.
 pub mod Trees
 pub mod Evaluations
 pub mod Answers

@@ -2,12 +2,12 @@
 use mathlib.Core.Bool.{cond}
 use mathlib.Core.List.{List}
 use Prim.Native.Nat.{ℕ, zero, suc, _-_}
-use lib.Dec.{eqb}
 use lib.ListN.{length, take, drop}
 use Rattle.paper.specs.declared.faults.Fault.{Fault}
 use Rattle.paper.specs.declared.faults.Fault.the-variants.{TooDeep, BadExpression}
-use Rattle.arithmetic.specs.Operators.{levelOf, loosest, standsAlone}
+use Rattle.arithmetic.specs.Operators.{loosest, standsAlone}
 use Rattle.arithmetic.specs.declared.operators.Operator.{Operator}
+use Rattle.parts.specs.Links.{Link, binds, none, linkAt}
 use Rattle.tokens.specs.Tokens.{tokenAt}
 use Rattle.tokens.specs.declared.Token.{Token}
 use Rattle.tokens.specs.declared.Token.the-variants.{End, Operator as Operates, Number, FaultyNumber, Name, Open, Close, Strange}
@@ -26,21 +26,6 @@ pub data Tree : Type 0 where
 pub data Parsed : Type 0 where
   tree : Tree → ℕ → Parsed
   faulty : Fault → ℕ → Parsed
-
--- what stands behind an operand: an operator of the level that asks, with its place and the first place behind it, or anything else
-pub data Link : Type 0 where
-  binds : Operator → ℕ → ℕ → Link
-  none : Link
-
-abbrev pub linkBy : ℕ → Token → ℕ → ℕ → Link
-linkBy level (Operates operator) place next = cond (eqb (levelOf operator) level) (binds operator place next) none
-linkBy level End place next = none
-linkBy level (Number value) place next = none
-linkBy level (FaultyNumber fault digit) place next = none
-linkBy level Name place next = none
-linkBy level Open place next = none
-linkBy level Close place next = none
-linkBy level Strange place next = none
 
 -- the left side of an operator and what stands behind it
 abbrev pub joined : Operator → ℕ → Tree → Parsed → Parsed
@@ -84,16 +69,12 @@ pub record Deeper : Type 0 where
   pub bracket : ℕ → ℕ → Parsed
 
 module _ (text : List ℕ) where
-  -- the operator of a level behind a place
-  abbrev pub linkAt : ℕ → ℕ → Link
-  linkAt level at = let behind = tokenAt text at in linkBy level (behind .token) (behind .place) (behind .next)
-
   -- operators of one level from the left, their operands one level tighter. The first number is only there to let the definition
   -- end: each operator takes a byte at least
   unfoldable pub operatorsFrom : ℕ → ℕ → (ℕ → Parsed) → Parsed → Parsed
   operatorsFrom zero level below parsed = parsed
   operatorsFrom (suc more) level below (faulty fault place) = faulty fault place
-  operatorsFrom (suc more) level below (tree lhs at) = extended (linkAt level at) lhs at below (operatorsFrom more level below)
+  operatorsFrom (suc more) level below (tree lhs at) = extended (linkAt text level at) lhs at below (operatorsFrom more level below)
 
   -- a part whose operators bind at a level or tighter
   abbrev pub levelAt : ℕ → (ℕ → Parsed) → ℕ → Parsed

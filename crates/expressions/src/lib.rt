@@ -5,8 +5,8 @@ ghost use Rattle.variables.specs.inner.Keys.{Keys};
 ghost use Rattle.expressions.specs.Answers.{readingOf, valueIn, refusedAt, evaluatedBy, evaluated};
 ghost use Rattle.expressions.specs.inner.Steps.{answerOf};
 
+mod leaves;
 mod levels;
-mod parts;
 
 use paper::LONGEST;
 use paper::OVER_LENGTH;
@@ -14,6 +14,7 @@ use paper::RecordPlace;
 use paper::TextPlace;
 use parts::Account;
 use parts::Part;
+use parts::behind;
 use variables::Checked;
 
 // What an evaluation answers.
@@ -64,7 +65,7 @@ fn evaluate_over(text: &[u8], table: &[u8], keys: &[u32], left: u32) -> Evaluate
     ensures { λ r. ⌜ r ≡ evaluatedBy (run (readingOf (now (text .entry)) (now (table .entry))) left) (valueIn (now (text .entry)) (now (table .entry))) ⌝ }
 {
     let part = levels::disjunction(text, table, keys, LEVELS, 0, Account::Open(left));
-    answer_of(levels::ended(text, part))
+    answer_of(behind::ended(text, part))
 }
 
 // The value of an expression, its names those of a table's integer variables.

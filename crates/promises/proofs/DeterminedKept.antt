@@ -18,6 +18,9 @@ use Rattle.variables.proofs.KeysFind.{one-keyed}
 use Rattle.symbols.specs.Flags.{has}
 use Rattle.symbols.specs.Symbols.{symbolAt, firstAt, modeOf, endingSpace}
 use Rattle.tokens.specs.Tokens.{Lexeme, tokenAt}
+use Rattle.parts.specs.inner.Steps as Parts
+use Rattle.parts.specs.declared.Part.the-variants as Part
+use Rattle.paper.specs.declared.faults.Fault.the-variants as Faults
 use Rattle.gs.specs.Translations.{translated, outAfter, translatedAnswer}
 use Rattle.arithmetic.specs.Operators as Operators
 use Rattle.arithmetic.specs.Values.{unaryValue, binaryValue}
@@ -68,6 +71,15 @@ determined =
       token-at =
           function-of (λ (text, (at, _)). let l = tokenAt text at in record { token = l .token; place = l .place; next = l .next })
           (λ κs a r after c. ap (λ (l : Lexeme). record { token = l .token; place = l .place; next = l .next }) c);
+      operator-behind = function-of (λ (text, (level, (part, _))). Parts.linkBehind text level part) (λ κs a r after c. c);
+      closed-part = function-of (λ (text, (part, _)). Parts.closedPart text part) (λ κs a r after c. c);
+      ended-part = function-of (λ (text, (part, _)). Parts.endedPart text part) (λ κs a r after c. c);
+      too-deep-part = function-of (λ (place, _). Part.Faulty Faults.TooDeep place) (λ κs a r after c. c);
+      bad-part = function-of (λ (place, _). Part.Faulty Faults.BadExpression place) (λ κs a r after c. c);
+      account-of = function-of (λ (part, _). Parts.accountOf part) (λ κs a r after c. c);
+      moved-to = function-of (λ (part, (next, _)). Parts.movedTo next part) (λ κs a r after c. c);
+      covered-part = function-of (λ (operator, (part, _)). Parts.coveredPart operator part) (λ κs a r after c. c);
+      joined-part = function-of (λ (operator, (place, (lhs, (rhs, _)))). Parts.joinedPart operator place lhs rhs) (λ κs a r after c. c);
       answer =
           function-of (λ (text, (out, _)). (length (answerTo text), answerTo text ++ drop (length (answerTo text)) out))
           (λ κs a r after c. ap₂ (λ r out. (r, out)) (c .0) (c .1 ∙ ap (λ n. answerTo (now (a .0)) ++ drop n (now (a .1 .0))) (c .0)));

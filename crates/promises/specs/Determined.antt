@@ -29,6 +29,16 @@ use Rattle.symbols.proofs.symbols.symbol_at.Reads as symbol-at
 use Rattle.symbols.proofs.symbols.open.Reads as open-text
 use Rattle.symbols.proofs.bytes.is_ending_space.Reads as is-ending-space
 use Rattle.tokens.proofs.token_at.Reads as token-at
+use Rattle.parts.proofs.behind.operator_behind.Reads as operator-behind
+use Rattle.parts.proofs.behind.closed.Reads as closed-part
+use Rattle.parts.proofs.behind.ended.Reads as ended-part
+use Rattle.parts.proofs.too_deep.Reads as too-deep-part
+use Rattle.parts.proofs.bad.Reads as bad-part
+use Rattle.parts.proofs.account_of.Reads as account-of
+use Rattle.parts.proofs.moved_to.Reads as moved-to
+use Rattle.parts.proofs.covered.Reads as covered-part
+use Rattle.parts.proofs.joined.Reads as joined-part
+use Rattle.parts.specs.inner.Steps.{linkOf}
 use Rattle.filter.proofs.answer.Reads as answer
 use Rattle.nosgoludd.proofs.conversions.nos_convert.Reads as nos-convert
 use Rattle.nosgoludd.proofs.readings.nos_read_unsigned.Reads as nos-read-unsigned
@@ -93,6 +103,16 @@ pub record Determined : Type 0 where
   pub binary : One binary.Learnt rest answer-alone
   -- tokens
   pub token-at : One token-at.Learnt (lent rest) answer-alone
+  -- parts
+  pub operator-behind : One operator-behind.Learnt (lent rest) (λ r after. linkOf r)
+  pub closed-part : One closed-part.Learnt (lent rest) answer-alone
+  pub ended-part : One ended-part.Learnt (lent rest) answer-alone
+  pub too-deep-part : One too-deep-part.Learnt rest answer-alone
+  pub bad-part : One bad-part.Learnt rest answer-alone
+  pub account-of : One account-of.Learnt rest answer-alone
+  pub moved-to : One moved-to.Learnt rest answer-alone
+  pub covered-part : One covered-part.Learnt rest answer-alone
+  pub joined-part : One joined-part.Learnt rest answer-alone
   -- filter
   pub answer : One answer.Learnt (lent (lent rest)) (answer-and (λ (text, (out, _)). out))
   -- nosgoludd

@@ -7,10 +7,11 @@ use Rattle.variables.specs.Names.{namesOf}
 use Rattle.arithmetic.specs.Operators.{loosest}
 use Rattle.expressions.specs.Trees.{levelAt, operandAt, endedTree, wholeTree}
 use Rattle.expressions.specs.Answers.{readingOf, valueIn, evaluatedBy}
-use Rattle.expressions.specs.inner.Steps.{partOf, endedPart, answerOf}
+use Rattle.parts.specs.inner.Steps.{endedPart}
+use Rattle.expressions.specs.inner.Steps.{partOf, answerOf}
 use Rattle.expressions.specs.declared.Evaluated.{Evaluated}
-use Rattle.expressions.specs.declared.parts.Account.the-variants.{Open}
-use Rattle.expressions.specs.declared.parts.Part.{Part}
+use Rattle.parts.specs.declared.Account.the-variants.{Open}
+use Rattle.parts.specs.declared.Part.{Part}
 use Rattle.expressions.proofs.Joins.{part-ended, part-answer}
 use borrow.Author.Needs.{needs}
 use Rattle.expressions.proofs.evaluate_over.Statement.{statement}

@@ -10,8 +10,9 @@ use borrow.Fn.Kinds.{In}
 use borrow.Fn.PlainCycle.{Measures, is, falls, and}
 use Rattle.variables.specs.Names.{namesOf}
 use Rattle.expressions.specs.Trees.{faulty, levelAt, operandAt}
-use Rattle.expressions.specs.inner.Steps.{linkOf, partOf}
-use Rattle.expressions.specs.declared.parts.Account.{Account}
+use Rattle.parts.specs.inner.Steps.{linkOf}
+use Rattle.expressions.specs.inner.Steps.{partOf}
+use Rattle.parts.specs.declared.Account.{Account}
 use Rattle.tokens.specs.declared.Token.the-variants.{End, Number, FaultyNumber, Name, Close, Strange}
 use Rattle.expressions.proofs.Chains.{remaining, Chain, begins, goes-on, ends, falls as falls-behind}
 use Rattle.expressions.proofs.Operands.{starts-with, name-stands, misplaced, operator-too-deep, operator-covers, bracket-too-deep, bracket-covers}
@@ -33,16 +34,16 @@ use Rattle.expressions.proofs.levels.+conjunction+disjunction+operand+r
 use Rattle.expressions.proofs.levels.term.Reads as term
 use Rattle.expressions.proofs.levels.term.Kinds as term-kinds
 use Rattle.expressions.proofs.levels.+conjunction+disjunction+operand+relation+sum+term.Lts-term as term-lts
-use Rattle.expressions.proofs.levels.bad.Reads as bad-reads
-use Rattle.expressions.proofs.levels.too_deep.Reads as too-deep-reads
-use Rattle.expressions.proofs.levels.closed.Reads as closed-reads
-use Rattle.expressions.proofs.levels.operator_behind.Reads as operator-behind-reads
+use Rattle.parts.proofs.bad.Reads as bad-reads
+use Rattle.parts.proofs.too_deep.Reads as too-deep-reads
+use Rattle.parts.proofs.behind.closed.Reads as closed-reads
+use Rattle.parts.proofs.behind.operator_behind.Reads as operator-behind-reads
 use Rattle.arithmetic.proofs.operators.Operator.stands_alone.Reads as stands-alone-reads
-use Rattle.expressions.proofs.parts.account_of.Reads as account-of-reads
-use Rattle.expressions.proofs.parts.covered.Reads as covered-reads
-use Rattle.expressions.proofs.parts.joined.Reads as joined-reads
-use Rattle.expressions.proofs.parts.named.Reads as named-reads
-use Rattle.expressions.proofs.parts.number.Reads as number-reads
+use Rattle.parts.proofs.account_of.Reads as account-of-reads
+use Rattle.parts.proofs.covered.Reads as covered-reads
+use Rattle.parts.proofs.joined.Reads as joined-reads
+use Rattle.expressions.proofs.leaves.named.Reads as named-reads
+use Rattle.expressions.proofs.leaves.number.Reads as number-reads
 use Rattle.tokens.proofs.token_at.Reads as token-at-reads
 use Rattle.expressions.proofs.levels.+conjunction+disjunction+operand+relation+sum+term.{statement}
 use Rattle.expressions.proofs.levels.+conjunction+disjunction+operand+relation+sum+term.Tie.{close}

@@ -1,0 +1,95 @@
+// Leaves of the tree: a number, and a name that is looked up in the table.
+ghost use mathlib.Core.Path.{_≡_};
+ghost use mathlib.Core.List.{List};
+ghost use Prim.Native.Nat.{ℕ};
+ghost use Rattle.variables.specs.inner.Keys.{Keys};
+ghost use Rattle.variables.specs.Names.{Meaning, namesOf};
+ghost use Rattle.parts.specs.declared.Account.the-variants as Account;
+ghost use Rattle.parts.specs.declared.Part.the-variants as Part;
+ghost use Rattle.expressions.specs.Trees as Trees;
+ghost use Rattle.expressions.specs.inner.Steps.{partOf};
+use paper::ALLOWANCE_SPENT;
+use paper::NOT_AN_INTEGER;
+use paper::UNKNOWN_NAME;
+use parts::Account;
+use parts::Part;
+use variables::Match;
+use variables::integers::pattern_of;
+use variables::keys::find;
+use variables::kinds::Kind;
+
+fn refused(number: u8, place: usize, next: usize) -> Part
+    ensures { λ r. ⌜ r ≡ Part.Refused number place next ⌝ }
+{
+    Part::Refused {
+        number,
+        place,
+        next,
+    }
+}
+
+// A number spends nothing.
+pub(crate) fn number(value: u32, next: usize, account: Account) -> Part
+    ensures { λ r. ⌜ ((names : List ℕ → Meaning) → r ≡ partOf names account (Trees.tree (Trees.constant value) next)) ⌝ }
+{
+    match account {
+        Account::Open(left) => Part::Value { value, left, next },
+        Account::Refused { number, place } => Part::Refused {
+            number,
+            place,
+            next,
+        },
+    }
+}
+
+// A name must be known, and an integer variable; then it spends one look-up.
+fn look_up(name: &[u8], table: &[u8], keys: &[u32], place: usize, next: usize, left: u32) -> Part
+    requires { ⌜ Keys (now table) (now keys) ⌝ }
+    ensures { λ r. ⌜ r ≡ partOf (namesOf (now (table .entry))) (Account.Open left) (Trees.tree (Trees.variable (now (name .entry)) place) next) ⌝ }
+{
+    match find(table, keys, name) {
+        Match::Missing => refused(UNKNOWN_NAME, place, next),
+        Match::Record(v) => {
+            let kind = v.kind;
+            match kind {
+                Kind::Text => refused(NOT_AN_INTEGER, place, next),
+                Kind::Macro => refused(NOT_AN_INTEGER, place, next),
+                Kind::Integer => {
+                    if left == 0 {
+                        return refused(ALLOWANCE_SPENT, place, next);
+                    }
+                    Part::Value {
+                        value: pattern_of(variables::value_of(table, v)),
+                        left: left - 1,
+                        next,
+                    }
+                }
+            }
+        }
+    }
+}
+
+// Behind a refusal no name is looked up any more.
+pub(crate) fn named(
+    name: &[u8],
+    table: &[u8],
+    keys: &[u32],
+    place: usize,
+    next: usize,
+    account: Account,
+) -> Part
+    requires { ⌜ Keys (now table) (now keys) ⌝ }
+    ensures { λ r. ⌜ r ≡ partOf (namesOf (now (table .entry))) account (Trees.tree (Trees.variable (now (name .entry)) place) next) ⌝ }
+{
+    match account {
+        Account::Open(left) => look_up(name, table, keys, place, next, left),
+        Account::Refused {
+            number,
+            place: first,
+        } => Part::Refused {
+            number,
+            place: first,
+            next,
+        },
+    }
+}

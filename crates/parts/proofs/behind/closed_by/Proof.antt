@@ -1,0 +1,49 @@
+-- `closed_by` meets its contract: ")" closes, and every other token is a fault.
+use mathlib.Core.List.{[], _∷_}
+use mathlib.Core.Path.{_≡_, refl, ap, sym, _∙_}
+use Prim.Native.Nat.{ℕ}
+use denote.Enum.Declared.{tagOf}
+use types.Run.{OneOf, miss}
+use Rattle.paper.specs.declared.faults.Fault.the-variants.{BadExpression}
+use Rattle.parts.specs.inner.Steps.{closedPartBy}
+use Rattle.parts.specs.declared.Part.{Part}
+use Rattle.parts.specs.declared.Part.the-variants.{Faulty}
+use Rattle.tokens.specs.declared.Token.{Token}
+use Rattle.tokens.specs.declared.Token.the-variants.{End, Operator as Operates, Number, FaultyNumber, Name, Open as Bracket, Close, Strange}
+use Rattle.tokens.proofs.Token as Token
+use borrow.Author.Needs.{needs}
+use Rattle.parts.proofs.behind.closed_by.Statement.{statement}
+use Rattle.parts.proofs.behind.closed_by.Tie as tie
+
+module _ (part : Part) (place next : ℕ) where
+  strange : (token : Token) → OneOf (0 ∷ 1 ∷ 2 ∷ 3 ∷ 4 ∷ 5 ∷ 7 ∷ []) (tagOf Token.the-type token) → Faulty BadExpression place ≡ closedPartBy part token place next
+  strange End o = refl
+  strange (Operates operator) o = refl
+  strange (Number value) o = refl
+  strange (FaultyNumber fault digit) o = refl
+  strange Name o = refl
+  strange Bracket o = refl
+  strange Close o = absurd (miss (0 ∷ 1 ∷ 2 ∷ 3 ∷ 4 ∷ 5 ∷ 7 ∷ []) 6 tt o)
+  strange Strange o = refl
+
+enum-told : tie.Need-enum-told
+enum-told c = search needs
+
+moved-to-requires : tie.Need-moved-to-requires
+moved-to-requires c κs = search needs
+
+bad-requires : tie.Need-bad-requires
+bad-requires c κs = search needs
+
+returns : tie.Need-returns
+returns c =
+    let a = c .before .before .before .args in
+    c .moved-to .ensures ∙ ap (λ k. closedPartBy (a .part) k (a .lexed .place) (a .lexed .next)) (sym (c .before .enum-told .given .1))
+
+returns-2 : tie.Need-returns-2
+returns-2 c =
+    let a = c .before .before .args in
+    c .bad .ensures ∙ strange (a .part) (a .lexed .place) (a .lexed .next) (a .lexed .token) (c .before .match .keys2)
+
+pub closed-by-spec : {M : Type 1} → statement M
+closed-by-spec = tie.close (tie.spec enum-told moved-to-requires bad-requires returns returns-2)
