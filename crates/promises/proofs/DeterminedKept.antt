@@ -1,5 +1,5 @@
 -- Every public function beside the six operations has one answer: its contract says it as a function of what is given.
-use mathlib.Core.Path.{_≡_, ap, ap₂, sym, subst, _∙_}
+use mathlib.Core.Path.{_≡_, refl, ap, ap₂, sym, subst, _∙_}
 use mathlib.Core.Bool.{not}
 use mathlib.Core.List.{List, _++_}
 use Prim.Native.Nat.{ℕ, _+_}
@@ -18,7 +18,10 @@ use Rattle.variables.proofs.KeysFind.{one-keyed}
 use Rattle.symbols.specs.Flags.{has}
 use Rattle.symbols.specs.Symbols.{symbolAt, firstAt, modeOf, endingSpace}
 use Rattle.tokens.specs.Tokens.{Lexeme, tokenAt}
+use Rattle.parts.specs.Links.{Link, binds, none}
 use Rattle.parts.specs.inner.Steps as Parts
+use Rattle.parts.specs.declared.behind.Behind.{Behind}
+use Rattle.parts.specs.declared.behind.Behind.the-variants.{Binds, Other}
 use Rattle.parts.specs.declared.Part.the-variants as Part
 use Rattle.paper.specs.declared.faults.Fault.the-variants as Faults
 use Rattle.gs.specs.Translations.{translated, outAfter, translatedAnswer}
@@ -35,6 +38,16 @@ function-of : {Lifetimes Arguments Answer After Given Seen : Type 0} {Learnt : L
     → ((κs : Lifetimes) (a : Arguments) (r : Answer) (after : After) → Learnt κs a r after → seen r after ≡ f (given a)) → One Learnt given seen
 function-of f is =
     record { one = λ κs κs′ a a′ r r′ after after′ same c c′. is κs a r after c ∙ ap f same ∙ sym (is κs′ a′ r′ after′ c′) }
+
+-- an operator behind an operand, as the code has it, by the definitions' own type
+behindBy : Link → Behind
+behindBy (binds operator place next) = Binds operator place next
+behindBy none = Other
+
+behind-back : (r : Behind) → r ≡ behindBy (Parts.linkOf r)
+unfolding behindBy
+behind-back (Binds operator place next) = refl
+behind-back Other = refl
 
 pub determined : Determined
 determined =
@@ -71,7 +84,8 @@ determined =
       token-at =
           function-of (λ (text, (at, _)). let l = tokenAt text at in record { token = l .token; place = l .place; next = l .next })
           (λ κs a r after c. ap (λ (l : Lexeme). record { token = l .token; place = l .place; next = l .next }) c);
-      operator-behind = function-of (λ (text, (level, (part, _))). Parts.linkBehind text level part) (λ κs a r after c. c);
+      operator-behind =
+          function-of (λ (text, (level, (part, _))). behindBy (Parts.linkBehind text level part)) (λ κs a r after c. behind-back r ∙ ap behindBy c);
       closed-part = function-of (λ (text, (part, _)). Parts.closedPart text part) (λ κs a r after c. c);
       ended-part = function-of (λ (text, (part, _)). Parts.endedPart text part) (λ κs a r after c. c);
       too-deep-part = function-of (λ (place, _). Part.Faulty Faults.TooDeep place) (λ κs a r after c. c);

@@ -38,7 +38,6 @@ use Rattle.parts.proofs.account_of.Reads as account-of
 use Rattle.parts.proofs.moved_to.Reads as moved-to
 use Rattle.parts.proofs.covered.Reads as covered-part
 use Rattle.parts.proofs.joined.Reads as joined-part
-use Rattle.parts.specs.inner.Steps.{linkOf}
 use Rattle.filter.proofs.answer.Reads as answer
 use Rattle.nosgoludd.proofs.conversions.nos_convert.Reads as nos-convert
 use Rattle.nosgoludd.proofs.readings.nos_read_unsigned.Reads as nos-read-unsigned
@@ -104,7 +103,7 @@ pub record Determined : Type 0 where
   -- tokens
   pub token-at : One token-at.Learnt (lent rest) answer-alone
   -- parts
-  pub operator-behind : One operator-behind.Learnt (lent rest) (λ r after. linkOf r)
+  pub operator-behind : One operator-behind.Learnt (lent rest) answer-alone
   pub closed-part : One closed-part.Learnt (lent rest) answer-alone
   pub ended-part : One ended-part.Learnt (lent rest) answer-alone
   pub too-deep-part : One too-deep-part.Learnt rest answer-alone
