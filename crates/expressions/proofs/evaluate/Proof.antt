@@ -34,31 +34,10 @@ module _ (c : tie.After-key-table) where
       ≡ evaluated (start .args .text .now) (start .args .table .now) (start .args .allowance)
   decided h e = over (start .args .text .now) (start .args .table .now) (start .args .allowance) _ h (sym (c .key-table .ensures .checked) ∙ e)
 
-refused-requires : tie.Need-refused-requires
-refused-requires c κs = search needs
-
 returns : tie.Need-returns
 returns c =
     let a = c .before .before .before .before .args in
     c .refused .ensures ∙ too-long (a .text .now) (a .table .now) (a .allowance) (omega arith)
-
-key-table-requires : tie.Need-key-table-requires
-key-table-requires c κs = search needs
-
-enum-known-checked : tie.Need-enum-known-checked
-enum-known-checked c = search needs
-
-enum-known-checked-2 : tie.Need-enum-known-checked-2
-enum-known-checked-2 c = search needs
-
-cap-requires : tie.Need-cap-requires
-cap-requires c κs = search needs
-
-sub-evaluate-over : tie.Need-sub-evaluate-over
-sub-evaluate-over c = search needs
-
-part-evaluate-over-start : tie.Need-part-evaluate-over-start
-part-evaluate-over-start c = search needs
 
 part-evaluate-over-end : tie.Need-part-evaluate-over-end
 part-evaluate-over-end c =
@@ -85,14 +64,14 @@ pub evaluate-spec : {M : Type 1} → statement M
 evaluate-spec =
     tie.close
     (tie.spec
-    refused-requires
+    (λ c κs. search needs)
     returns
-    key-table-requires
-    enum-known-checked
-    enum-known-checked-2
-    cap-requires
-    sub-evaluate-over
-    part-evaluate-over-start
+    (λ c κs. search needs)
+    (λ c. search needs)
+    (λ c. search needs)
+    (λ c κs. search needs)
+    (λ c. search needs)
+    (λ c. search needs)
     part-evaluate-over-end
     evaluate-over-requires
     returns-2

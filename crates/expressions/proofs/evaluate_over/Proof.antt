@@ -26,18 +26,9 @@ evaluated-whole text table left part last r p e h =
     h ∙ ap answerOf (e ∙ ap (endedPart text) p ∙ part-ended (namesOf table) text (Open left) parsed)
     ∙ part-answer (namesOf table) left (endedTree text parsed)
 
-disjunction-requires : tie.Need-disjunction-requires
-disjunction-requires c κs = search needs
-
-ended-requires : tie.Need-ended-requires
-ended-requires c κs = search needs
-
-answer-of-requires : tie.Need-answer-of-requires
-answer-of-requires c κs = search needs
-
 returns : tie.Need-returns
 returns c = evaluated-whole (c .before .before .before .before .before .before .args .text .now) (c .before .before .before .before .before .before .args .table .now) (c .before .before .before .before .before .before .args .left) _ _ _ (c .before .before .disjunction .ensures) (c .before .ended .ensures) (c .answer-of .ensures)
 
 pub evaluate-over-spec : {M : Type 1} → statement M
 evaluate-over-spec =
-    tie.close (tie.spec disjunction-requires ended-requires answer-of-requires returns)
+    tie.close (tie.spec (λ c κs. search needs) (λ c κs. search needs) (λ c κs. search needs) returns)

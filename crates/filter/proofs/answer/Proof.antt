@@ -7,36 +7,6 @@ use Rattle.filter.proofs.ShownLaws.{written-answer, line-answer}
 use Rattle.filter.proofs.answer.Statement.{statement}
 use Rattle.filter.proofs.answer.Tie as tie
 
-sub-no-table : tie.Need-sub-no-table
-sub-no-table c = search needs
-
-part-no-table-start : tie.Need-part-no-table-start
-part-no-table-start c = search needs
-
-part-no-table-end : tie.Need-part-no-table-end
-part-no-table-end c = search needs
-
-none-requires : tie.Need-none-requires
-none-requires c κs = search needs
-
-translate-requires : tie.Need-translate-requires
-translate-requires c κs = search needs
-
-enum-known-translated : tie.Need-enum-known-translated
-enum-known-translated c = search needs
-
-enum-known-translated-2 : tie.Need-enum-known-translated-2
-enum-known-translated-2 c = search needs
-
-refusal-requires : tie.Need-refusal-requires
-refusal-requires c κs = search needs
-
-enum-known-translated-3 : tie.Need-enum-known-translated-3
-enum-known-translated-3 c = search needs
-
-refusal-requires-2 : tie.Need-refusal-requires-2
-refusal-requires-2 c κs = search needs
-
 -- the room is what the program has
 room : (c : tie.After-translate-arg) → length (c .before .before .before .before .args .out .now) ≡ longest
 room c = search needs
@@ -66,16 +36,16 @@ pub answer-spec : {M : Type 1} → statement M
 answer-spec =
     tie.close
     (tie.spec
-    sub-no-table
-    part-no-table-start
-    part-no-table-end
-    none-requires
-    translate-requires
-    enum-known-translated
-    enum-known-translated-2
-    refusal-requires
-    enum-known-translated-3
-    refusal-requires-2
+    (λ c. search needs)
+    (λ c. search needs)
+    (λ c. search needs)
+    (λ c κs. search needs)
+    (λ c κs. search needs)
+    (λ c. search needs)
+    (λ c. search needs)
+    (λ c κs. search needs)
+    (λ c. search needs)
+    (λ c κs. search needs)
     returns
     returns-2
     returns-3)

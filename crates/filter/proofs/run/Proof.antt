@@ -14,31 +14,16 @@ use Rattle.filter.proofs.run.Tie as tie
 counted : (text out : List ℕ) {after : List ℕ} {end : ℕ} → Stands out (answerTo text) end after → end ≡ length (take end after)
 counted text out {after} {end} (ends, e) = ends ∙ ap length (sym (ap (take end) e ∙ take-at (answerTo text) (drop end out) end (sym ends)))
 
-read-full-requires : tie.Need-read-full-requires
-read-full-requires c κs = search needs
-
-slice-aggregate-answer : tie.Need-slice-aggregate-answer
-slice-aggregate-answer c = search needs
-
-answer-requires : tie.Need-answer-requires
-answer-requires c κs = search needs
-
 slice-aggregate-send : tie.Need-slice-aggregate-send
 slice-aggregate-send c = counted _ _ (c .before .before .before .answer .ensures)
-
-send-requires : tie.Need-send-requires
-send-requires c κs = search needs
-
-returns : tie.Need-returns
-returns c = search needs
 
 pub run-spec : {M : Type 1} → statement M
 run-spec =
     tie.close
     (tie.spec
-    read-full-requires
-    slice-aggregate-answer
-    answer-requires
+    (λ c κs. search needs)
+    (λ c. search needs)
+    (λ c κs. search needs)
     slice-aggregate-send
-    send-requires
-    returns)
+    (λ c κs. search needs)
+    (λ c. search needs))

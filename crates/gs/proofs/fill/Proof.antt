@@ -13,33 +13,6 @@ use borrow.Author.Needs.{needs}
 use Rattle.gs.proofs.fill.Statement.{statement}
 use Rattle.gs.proofs.fill.Tie as tie
 
-sub-expand : tie.Need-sub-expand
-sub-expand c = search needs
-
-part-expand-start : tie.Need-part-expand-start
-part-expand-start c = search needs
-
-part-expand-end : tie.Need-part-expand-end
-part-expand-end c = search needs
-
-expand-requires : tie.Need-expand-requires
-expand-requires c κs = search needs
-
-enum-known-measured : tie.Need-enum-known-measured
-enum-known-measured c = search needs
-
-refused-requires : tie.Need-refused-requires
-refused-requires c κs = search needs
-
-enum-known-measured-2 : tie.Need-enum-known-measured-2
-enum-known-measured-2 c = search needs
-
-refused-requires-2 : tie.Need-refused-requires-2
-refused-requires-2 c κs = search needs
-
-same-length : tie.Need-same-length
-same-length c = search needs
-
 returns : tie.Need-returns
 returns c =
     let a = c .before .before .before .before .before .before .before .before .before .before .before .before .before .args in
@@ -52,12 +25,6 @@ returns c =
       back ∙ ap (λ r. leftBy r (bytes t) (a .out .now)) (sym (c .refused2 .ensures)),
     )
 
-expand-requires-2 : tie.Need-expand-requires-2
-expand-requires-2 c κs = search needs
-
-same-length-2 : tie.Need-same-length-2
-same-length-2 c = search needs
-
 returns-2 : tie.Need-returns-2
 returns-2 c =
     let a = c .before .before .before .before .before .before .before .before .before .before .before .before .args in
@@ -68,9 +35,6 @@ returns-2 c =
       c .refused .ensures ∙ refused-answer t (a .left) _ _ (length (a .out .now)) m,
       back ∙ ap (λ r. leftBy r (bytes t) (a .out .now)) (sym (c .refused .ensures)),
     )
-
-same-length-3 : tie.Need-same-length-3
-same-length-3 c = search needs
 
 returns-3 : tie.Need-returns-3
 returns-3 c =
@@ -89,18 +53,18 @@ pub fill-spec : {M : Type 1} → statement M
 fill-spec =
     tie.close
     (tie.spec
-    sub-expand
-    part-expand-start
-    part-expand-end
-    expand-requires
-    enum-known-measured
-    refused-requires
-    enum-known-measured-2
-    refused-requires-2
-    same-length
+    (λ c. search needs)
+    (λ c. search needs)
+    (λ c. search needs)
+    (λ c κs. search needs)
+    (λ c. search needs)
+    (λ c κs. search needs)
+    (λ c. search needs)
+    (λ c κs. search needs)
+    (λ c. search needs)
     returns
-    expand-requires-2
-    same-length-2
+    (λ c κs. search needs)
+    (λ c. search needs)
     returns-2
-    same-length-3
+    (λ c. search needs)
     returns-3)

@@ -21,9 +21,6 @@ module _ (text table : List ℕ) (flags allowance : ℕ) (out : List ℕ) where
   unfolding outAfter
   left-by r e = ap (λ r. leftBy r (bytes (readingOf text table flags)) out) e
 
-refused-requires : tie.Need-refused-requires
-refused-requires c κs = search needs
-
 returns : tie.Need-returns
 returns c =
     let a = c .before .before .before .before .before .args in
@@ -32,9 +29,6 @@ returns c =
       ap (λ r. leftBy r (bytes (readingOf (a .text .now) (a .table .now) (a .flags .0))) (a .out .now)) (sym (c .refused .ensures))
           ∙ left-by (a .text .now) (a .table .now) (a .flags .0) (a .allowance) (a .out .now) _ e,
     )
-
-key-table-requires : tie.Need-key-table-requires
-key-table-requires c κs = search needs
 
 -- where the table is checked
 module _ (c : tie.After-key-table) where
@@ -55,25 +49,10 @@ module _ (c : tie.After-key-table) where
       over (a .text .now) table (a .flags .0) (a .allowance) (length (a .out .now)) _ (c .before .if1 .left)
       (sym (c .key-table .ensures .checked) ∙ e)
 
-enum-known-checked : tie.Need-enum-known-checked
-enum-known-checked c = search needs
-
-enum-known-checked-2 : tie.Need-enum-known-checked-2
-enum-known-checked-2 c = search needs
-
-sub-fill : tie.Need-sub-fill
-sub-fill c = search needs
-
-part-fill-start : tie.Need-part-fill-start
-part-fill-start c = search needs
-
 part-fill-end : tie.Need-part-fill-end
 part-fill-end c =
     let k = c .before in
     lines-inside (k .before .before .before .before .before .key-table .ensures) (k .checked2 .given .1)
-
-cap-requires : tie.Need-cap-requires
-cap-requires c κs = search needs
 
 fill-requires : tie.Need-fill-requires
 fill-requires c κs =
@@ -87,9 +66,6 @@ returns-2 c =
     let a = start t .args in
     let e = by-check t (c .before .checked .given .1) in
     (e, left-by (a .text .now) (a .table .now) (a .flags .0) (a .allowance) (a .out .now) _ e)
-
-same-length : tie.Need-same-length
-same-length c = search needs
 
 returns-3 : tie.Need-returns-3
 returns-3 c =
@@ -106,16 +82,16 @@ pub translate-spec : {M : Type 1} → statement M
 translate-spec =
     tie.close
     (tie.spec
-    refused-requires
+    (λ c κs. search needs)
     returns
-    key-table-requires
-    enum-known-checked
-    enum-known-checked-2
-    sub-fill
-    part-fill-start
+    (λ c κs. search needs)
+    (λ c. search needs)
+    (λ c. search needs)
+    (λ c. search needs)
+    (λ c. search needs)
     part-fill-end
-    cap-requires
+    (λ c κs. search needs)
     fill-requires
     returns-2
-    same-length
+    (λ c. search needs)
     returns-3)

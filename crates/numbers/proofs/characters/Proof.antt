@@ -9,15 +9,6 @@ use Rattle.numbers.specs.Strings.{minus}
 use Rattle.numbers.proofs.characters.Statement.{statement}
 use Rattle.numbers.proofs.characters.Tie as tie
 
-one-if-requires : tie.Need-one-if-requires
-one-if-requires c κs = search needs
-
-spread-requires : tie.Need-spread-requires
-spread-requires c κs = search needs
-
-add-result : tie.Need-add-result
-add-result c = search needs
-
 one : (below : Bool) → cond below 1 0 ≡ length (minus below)
 one true = refl
 one false = refl
@@ -26,4 +17,4 @@ returns : tie.Need-returns
 returns c = (ap₂ (λ m n. m + n) (c .before .one-if .ensures .0 ∙ one (c .before .before .args .negative)) (c .spread .ensures .0), omega arith)
 
 pub characters-spec : {M : Type 1} → statement M
-characters-spec = tie.close (tie.spec one-if-requires spread-requires add-result returns)
+characters-spec = tie.close (tie.spec (λ c κs. search needs) (λ c κs. search needs) (λ c. search needs) returns)

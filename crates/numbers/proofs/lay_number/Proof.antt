@@ -16,15 +16,6 @@ use Rattle.numbers.proofs.Buffer.{sets-if, signed}
 use Rattle.numbers.proofs.lay_number.Statement.{statement}
 use Rattle.numbers.proofs.lay_number.Tie as tie
 
-put-digits-requires : tie.Need-put-digits-requires
-put-digits-requires c κs = search needs
-
-put-if-requires : tie.Need-put-if-requires
-put-if-requires c κs = search needs
-
-same-length : tie.Need-same-length
-same-length c = search needs
-
 -- the two stores, one behind the other
 stored : (number : Number) (base k : ℕ) (spaced : Bool) (end : ℕ) (old first second : List ℕ)
     → end ≡ charactersOf (number .negative) spaced k → end ≤ length old
@@ -48,4 +39,4 @@ returns c =
     (put .ensures) (c .before .before .put-if .ensures)
 
 pub lay-number-spec : {M : Type 1} → statement M
-lay-number-spec = tie.close (tie.spec put-digits-requires put-if-requires same-length returns)
+lay-number-spec = tie.close (tie.spec (λ c κs. search needs) (λ c κs. search needs) (λ c. search needs) returns)

@@ -14,15 +14,6 @@ use Rattle.numbers.proofs.Parts.{string-of}
 use Rattle.numbers.proofs.signed_decimal.Statement.{statement}
 use Rattle.numbers.proofs.signed_decimal.Tie as tie
 
-number-in-requires : tie.Need-number-in-requires
-number-in-requires c κs = search needs
-
-count-decimal-requires : tie.Need-count-decimal-requires
-count-decimal-requires c κs = search needs
-
-characters-requires : tie.Need-characters-requires
-characters-requires c κs = search needs
-
 -- where the size is known: it is the decimal's
 module _ (c : tie.After-characters) where
   laid : stringOf (c .before .before .number-in .result) 10 (c .before .count-decimal .result) false ≡ decimalOf (c .before .before .before .args .value)
@@ -53,8 +44,8 @@ pub signed-decimal-spec : {M : Type 1} → statement M
 signed-decimal-spec =
     tie.close
     (tie.spec
-    number-in-requires
-    count-decimal-requires
-    characters-requires
+    (λ c κs. search needs)
+    (λ c κs. search needs)
+    (λ c κs. search needs)
     lay-number-requires
     returns)

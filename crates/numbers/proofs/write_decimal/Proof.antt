@@ -6,18 +6,6 @@ use Rattle.numbers.proofs.Parts.{converted}
 use Rattle.numbers.proofs.write_decimal.Statement.{statement}
 use Rattle.numbers.proofs.write_decimal.Tie as tie
 
-number-in-requires : tie.Need-number-in-requires
-number-in-requires c κs = search needs
-
-count-decimal-requires : tie.Need-count-decimal-requires
-count-decimal-requires c κs = search needs
-
-write-number-requires : tie.Need-write-number-requires
-write-number-requires c κs = search needs
-
-same-length : tie.Need-same-length
-same-length c = search needs
-
 returns : tie.Need-returns
 returns c =
     let a = c .before .before .before .before .before .before .before .args in
@@ -29,4 +17,4 @@ returns c =
 pub write-decimal-spec : {M : Type 1} → statement M
 write-decimal-spec =
     tie.close
-    (tie.spec number-in-requires count-decimal-requires write-number-requires same-length returns)
+    (tie.spec (λ c κs. search needs) (λ c κs. search needs) (λ c κs. search needs) (λ c. search needs) returns)

@@ -9,15 +9,6 @@ use Rattle.numbers.proofs.Parts.{converted}
 use Rattle.numbers.proofs.write_fixed.Statement.{statement}
 use Rattle.numbers.proofs.write_fixed.Tie as tie
 
-low-bits-requires : tie.Need-low-bits-requires
-low-bits-requires c κs = search needs
-
-write-number-requires : tie.Need-write-number-requires
-write-number-requires c κs = search needs
-
-same-length : tie.Need-same-length
-same-length c = search needs
-
 returns : tie.Need-returns
 returns c =
     let start = c .before .before .before .before .before .before in
@@ -28,4 +19,4 @@ returns c =
     converted (fixed (a .base) (a .width)) (a .value) number (a .digits) same (start .pre) (a .buf .now) (c .before .before .write-number .ensures)
 
 pub write-fixed-spec : {M : Type 1} → statement M
-write-fixed-spec = tie.close (tie.spec low-bits-requires write-number-requires same-length returns)
+write-fixed-spec = tie.close (tie.spec (λ c κs. search needs) (λ c κs. search needs) (λ c. search needs) returns)

@@ -19,24 +19,6 @@ use Rattle.numbers.proofs.Buffer.{sets-if, ended}
 use Rattle.numbers.proofs.write_number.Statement.{statement}
 use Rattle.numbers.proofs.write_number.Tie as tie
 
-characters-requires : tie.Need-characters-requires
-characters-requires c κs = search needs
-
-one-if-requires : tie.Need-one-if-requires
-one-if-requires c κs = search needs
-
-add-need : tie.Need-add-need
-add-need c = search needs
-
-lay-number-requires : tie.Need-lay-number-requires
-lay-number-requires c κs = search needs
-
-put-if-requires : tie.Need-put-if-requires
-put-if-requires c κs = search needs
-
-sub-free : tie.Need-sub-free
-sub-free c = search needs
-
 one-long : (wanted : Bool) → cond wanted 1 0 ≡ length (terminator wanted)
 one-long true = refl
 one-long false = refl
@@ -90,9 +72,6 @@ returns c =
     let sized = c .before in
     refuses (text-of sized) _ _ _ (counted sized) (sized .one-if .ensures .0) _ (c .if1 .taken)
 
-same-length : tie.Need-same-length
-same-length c = search needs
-
 returns-2 : tie.Need-returns-2
 returns-2 c =
     let laid = c .before .before .before .before .before .before in
@@ -105,12 +84,12 @@ pub write-number-spec : {M : Type 1} → statement M
 write-number-spec =
     tie.close
     (tie.spec
-    characters-requires
-    one-if-requires
-    add-need
-    lay-number-requires
-    put-if-requires
-    sub-free
+    (λ c κs. search needs)
+    (λ c κs. search needs)
+    (λ c. search needs)
+    (λ c κs. search needs)
+    (λ c κs. search needs)
+    (λ c. search needs)
     returns
-    same-length
+    (λ c. search needs)
     returns-2)

@@ -24,17 +24,11 @@ value-part : (operator : Operator) (place lhs rhs left next v : ℕ) → (divide
 unfolding appliedPart
 value-part operator place lhs rhs left next v t h = skip (divides operator && eqb rhs 0) _ _ t (ap (λ x. Value x left next) h)
 
-divides-by-zero-requires : tie.Need-divides-by-zero-requires
-divides-by-zero-requires c κs = search needs
-
 returns : tie.Need-returns
 returns c = zero-part _ _ _ _ _ _ (sym (c .before .divides-by-zero .ensures) ∙ c .if1 .taken)
-
-binary-requires : tie.Need-binary-requires
-binary-requires c κs = search needs
 
 returns-2 : tie.Need-returns-2
 returns-2 c = value-part _ _ _ _ _ _ _ (sym (c .before .before .divides-by-zero .ensures) ∙ c .before .if1 .left) (c .binary .ensures)
 
 pub applied-spec : {M : Type 1} → statement M
-applied-spec = tie.close (tie.spec divides-by-zero-requires returns binary-requires returns-2)
+applied-spec = tie.close (tie.spec (λ c κs. search needs) returns (λ c κs. search needs) returns-2)

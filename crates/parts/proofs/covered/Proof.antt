@@ -14,18 +14,6 @@ covered-value : (operator : Operator) (part : Part) (v left next r : ℕ) → pa
     → Value r left next ≡ coveredPart operator part
 covered-value operator part v left next r e h = ap (λ x. Value x left next) h ∙ ap (coveredPart operator) (sym e)
 
-enum-known-part : tie.Need-enum-known-part
-enum-known-part c = search needs
-
-unary-requires : tie.Need-unary-requires
-unary-requires c κs = search needs
-
-enum-known-part-2 : tie.Need-enum-known-part-2
-enum-known-part-2 c = search needs
-
-enum-known-part-3 : tie.Need-enum-known-part-3
-enum-known-part-3 c = search needs
-
 returns : tie.Need-returns
 returns c = covered-value _ _ _ _ _ _ (c .before .before .part .given .1) (c .unary .ensures)
 
@@ -39,10 +27,10 @@ pub covered-spec : {M : Type 1} → statement M
 covered-spec =
     tie.close
     (tie.spec
-    enum-known-part
-    unary-requires
-    enum-known-part-2
-    enum-known-part-3
+    (λ c. search needs)
+    (λ c κs. search needs)
+    (λ c. search needs)
+    (λ c. search needs)
     returns
     returns-2
     returns-3)

@@ -6,14 +6,8 @@ use borrow.Author.Needs.{needs}
 use Rattle.parts.proofs.divides_by_zero.Statement.{statement}
 use Rattle.parts.proofs.divides_by_zero.Tie as tie
 
-divides-requires : tie.Need-divides-requires
-divides-requires c κs = search needs
-
 returns : tie.Need-returns
 returns c = ap (λ b. b && eqb (c .before .before .args .rhs) 0) (sym (c .if1 .taken) ∙ c .before .divides .ensures)
 
-returns-2 : tie.Need-returns-2
-returns-2 c = search needs
-
 pub divides-by-zero-spec : {M : Type 1} → statement M
-divides-by-zero-spec = tie.close (tie.spec divides-requires returns returns-2)
+divides-by-zero-spec = tie.close (tie.spec (λ c κs. search needs) returns (λ c. search needs))

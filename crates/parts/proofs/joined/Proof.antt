@@ -5,27 +5,6 @@ use borrow.Author.Needs.{needs}
 use Rattle.parts.proofs.joined.Statement.{statement}
 use Rattle.parts.proofs.joined.Tie as tie
 
-enum-known-rhs : tie.Need-enum-known-rhs
-enum-known-rhs c = search needs
-
-enum-known-rhs-2 : tie.Need-enum-known-rhs-2
-enum-known-rhs-2 c = search needs
-
-enum-known-rhs-3 : tie.Need-enum-known-rhs-3
-enum-known-rhs-3 c = search needs
-
-enum-known-lhs : tie.Need-enum-known-lhs
-enum-known-lhs c = search needs
-
-applied-requires : tie.Need-applied-requires
-applied-requires c κs = search needs
-
-enum-known-lhs-2 : tie.Need-enum-known-lhs-2
-enum-known-lhs-2 c = search needs
-
-enum-known-lhs-3 : tie.Need-enum-known-lhs-3
-enum-known-lhs-3 c = search needs
-
 returns : tie.Need-returns
 returns c = ap (joinedPart _ _ _) (sym (c .before .rhs .given .1))
 
@@ -45,13 +24,13 @@ pub joined-spec : {M : Type 1} → statement M
 joined-spec =
     tie.close
     (tie.spec
-    enum-known-rhs
-    enum-known-rhs-2
-    enum-known-rhs-3
-    enum-known-lhs
-    applied-requires
-    enum-known-lhs-2
-    enum-known-lhs-3
+    (λ c. search needs)
+    (λ c. search needs)
+    (λ c. search needs)
+    (λ c. search needs)
+    (λ c κs. search needs)
+    (λ c. search needs)
+    (λ c. search needs)
     returns
     returns-2
     returns-3

@@ -5,15 +5,6 @@ use borrow.Author.Needs.{needs}
 use Rattle.parts.proofs.moved_to.Statement.{statement}
 use Rattle.parts.proofs.moved_to.Tie as tie
 
-enum-known-part : tie.Need-enum-known-part
-enum-known-part c = search needs
-
-enum-known-part-2 : tie.Need-enum-known-part-2
-enum-known-part-2 c = search needs
-
-enum-known-part-3 : tie.Need-enum-known-part-3
-enum-known-part-3 c = search needs
-
 returns : tie.Need-returns
 returns c = ap (movedTo _) (sym (c .before .part .given .1))
 
@@ -26,4 +17,4 @@ returns-3 c = ap (movedTo _) (sym (c .before .part3 .given .1))
 pub moved-to-spec : {M : Type 1} → statement M
 moved-to-spec =
     tie.close
-    (tie.spec enum-known-part enum-known-part-2 enum-known-part-3 returns returns-2 returns-3)
+    (tie.spec (λ c. search needs) (λ c. search needs) (λ c. search needs) returns returns-2 returns-3)

@@ -4,14 +4,8 @@ use Rattle.reader.proofs.Laws.{cut-judged}
 use Rattle.reader.proofs.based.Statement.{statement}
 use Rattle.reader.proofs.based.Tie as tie
 
-run-from-requires : tie.Need-run-from-requires
-run-from-requires c κs = search needs
-
-judge-requires : tie.Need-judge-requires
-judge-requires c κs = search needs
-
 returns : tie.Need-returns
 returns c = rw (c .judge .ensures, c .before .run-from .ensures .0, c .before .run-from .ensures .1) (cut-judged _ _ _ _ _ _ _)
 
 pub based-spec : {M : Type 1} → statement M
-based-spec = tie.close (tie.spec run-from-requires judge-requires returns)
+based-spec = tie.close (tie.spec (λ c κs. search needs) (λ c κs. search needs) returns)

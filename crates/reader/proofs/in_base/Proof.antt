@@ -6,27 +6,15 @@ use Rattle.reader.specs.Reading.{inBase}
 use Rattle.reader.proofs.in_base.Statement.{statement}
 use Rattle.reader.proofs.in_base.Tie as tie
 
-refused-requires : tie.Need-refused-requires
-refused-requires c κs = search needs
-
 returns : tie.Need-returns
 unfolding inBase
 returns c = rw (c .refused .ensures, lt-ltb _ _ (c .before .if1 .taken))
-
-refused-requires-2 : tie.Need-refused-requires-2
-refused-requires-2 c κs = search needs
 
 returns-2 : tie.Need-returns-2
 unfolding inBase
 returns-2 c =
     let base = c .before .before .before .before .args .base in
     rw (c .refused2 .ensures, le-ltb base 2 (omega arith), lt-ltb 36 base (omega arith))
-
-cast-based : tie.Need-cast-based
-cast-based c = search needs
-
-based-requires : tie.Need-based-requires
-based-requires c κs = search needs
 
 returns-3 : tie.Need-returns-3
 unfolding inBase
@@ -38,10 +26,10 @@ pub in-base-spec : {M : Type 1} → statement M
 in-base-spec =
     tie.close
     (tie.spec
-    refused-requires
+    (λ c κs. search needs)
     returns
-    refused-requires-2
+    (λ c κs. search needs)
     returns-2
-    cast-based
-    based-requires
+    (λ c. search needs)
+    (λ c κs. search needs)
     returns-3)

@@ -59,24 +59,12 @@ module _ (c : tie.After-run-from) where
       from-start start ∙
       led _ _ _ _ (λ e. c .before .if2 .left (c .before .before .byte .ensures ∙ e)) (c .run-from .ensures .0) (c .run-from .ensures .1)
 
-refused-requires : tie.Need-refused-requires
-refused-requires c κs = search needs
-
 returns : tie.Need-returns
 unfolding reading
 returns c = rw (c .refused .ensures, lt-ltb _ _ (c .before .if1 .taken))
 
-skip-spaces-requires : tie.Need-skip-spaces-requires
-skip-spaces-requires c κs = search needs
-
-byte-requires : tie.Need-byte-requires
-byte-requires c κs = search needs
-
 add-based : tie.Need-add-based
 add-based c = omega (arith, start-within (c .before .before))
-
-based-requires : tie.Need-based-requires
-based-requires c κs = search needs
 
 returns-2 : tie.Need-returns-2
 unfolding numbered
@@ -84,25 +72,13 @@ returns-2 c =
     let b = c .before .before in
     rw (c .based .ensures, from-start (b .before), ← b .byte .ensures, eq-eqb _ _ (c .before .if2 .taken))
 
-run-from-requires : tie.Need-run-from-requires
-run-from-requires c κs = search needs
-
-marked-requires : tie.Need-marked-requires
-marked-requires c κs = search needs
-
 add-in-base : tie.Need-add-in-base
 add-in-base c =
     let s = c .before .before .before .before .before in
     omega (arith, start-within s, run-within 10 (s .skip-spaces .result) (text s) (start-within s))
 
-in-base-requires : tie.Need-in-base-requires
-in-base-requires c κs = search needs
-
 returns-3 : tie.Need-returns-3
 returns-3 c = rw (c .in-base .ensures, from-lead (c .before .before .before), ← c .before .before .marked .ensures, c .before .if3 .taken)
-
-judge-requires : tie.Need-judge-requires
-judge-requires c κs = search needs
 
 returns-4 : tie.Need-returns-4
 returns-4 c = rw (c .judge .ensures, from-lead (c .before .before .before), ← c .before .before .marked .ensures, c .before .if3 .left)
@@ -111,17 +87,17 @@ pub read-unsigned-spec : {M : Type 1} → statement M
 read-unsigned-spec =
     tie.close
     (tie.spec
-    refused-requires
+    (λ c κs. search needs)
     returns
-    skip-spaces-requires
-    byte-requires
+    (λ c κs. search needs)
+    (λ c κs. search needs)
     add-based
-    based-requires
+    (λ c κs. search needs)
     returns-2
-    run-from-requires
-    marked-requires
+    (λ c κs. search needs)
+    (λ c κs. search needs)
     add-in-base
-    in-base-requires
+    (λ c κs. search needs)
     returns-3
-    judge-requires
+    (λ c κs. search needs)
     returns-4)

@@ -5,15 +5,9 @@ use Rattle.tokens.specs.Tokens.{fromGreater}
 use Rattle.tokens.proofs.from_greater.Statement.{statement}
 use Rattle.tokens.proofs.from_greater.Tie as tie
 
-operator-of-requires : tie.Need-operator-of-requires
-operator-of-requires c κs = search needs
-
 returns : tie.Need-returns
 unfolding fromGreater
 returns c = same _ _ _ _ (c .before .if1 .taken) (c .operator-of .ensures)
-
-operator-of-requires-2 : tie.Need-operator-of-requires-2
-operator-of-requires-2 c κs = search needs
 
 returns-2 : tie.Need-returns-2
 unfolding fromGreater
@@ -21,17 +15,11 @@ returns-2 c =
     let second = c .before .before in
     other _ _ _ _ (second .before .if1 .left) (same _ _ _ _ (second .if2 .taken) (same _ _ _ _ (c .before .if3 .taken) (c .operator-of2 .ensures)))
 
-operator-of-requires-3 : tie.Need-operator-of-requires-3
-operator-of-requires-3 c κs = search needs
-
 returns-3 : tie.Need-returns-3
 unfolding fromGreater
 returns-3 c =
     let second = c .before .before in
     other _ _ _ _ (second .before .if1 .left) (same _ _ _ _ (second .if2 .taken) (other _ _ _ _ (c .before .if3 .left) (c .operator-of3 .ensures)))
-
-operator-of-requires-4 : tie.Need-operator-of-requires-4
-operator-of-requires-4 c κs = search needs
 
 returns-4 : tie.Need-returns-4
 unfolding fromGreater
@@ -41,11 +29,11 @@ pub from-greater-spec : {M : Type 1} → statement M
 from-greater-spec =
     tie.close
     (tie.spec
-    operator-of-requires
+    (λ c κs. search needs)
     returns
-    operator-of-requires-2
+    (λ c κs. search needs)
     returns-2
-    operator-of-requires-3
+    (λ c κs. search needs)
     returns-3
-    operator-of-requires-4
+    (λ c κs. search needs)
     returns-4)

@@ -3,12 +3,6 @@ use borrow.Author.Needs.{needs}
 use Rattle.tokens.proofs.is_letter.Statement.{statement}
 use Rattle.tokens.proofs.is_letter.Tie as tie
 
-among-requires : tie.Need-among-requires
-among-requires c κs = search needs
-
-among-requires-2 : tie.Need-among-requires-2
-among-requires-2 c κs = search needs
-
 returns : tie.Need-returns
 returns c = rw (← c .before .among .ensures, c .if1 .taken)
 
@@ -16,4 +10,4 @@ returns-2 : tie.Need-returns-2
 returns-2 c = rw (← c .before .before .among .ensures, c .before .if1 .left) (c .among2 .ensures)
 
 pub is-letter-spec : {M : Type 1} → statement M
-is-letter-spec = tie.close (tie.spec among-requires among-requires-2 returns returns-2)
+is-letter-spec = tie.close (tie.spec (λ c κs. search needs) (λ c κs. search needs) returns returns-2)

@@ -5,12 +5,6 @@ use Rattle.tokens.specs.Tokens.{wordByte}
 use Rattle.tokens.proofs.is_word_byte.Statement.{statement}
 use Rattle.tokens.proofs.is_word_byte.Tie as tie
 
-is-letter-requires : tie.Need-is-letter-requires
-is-letter-requires c κs = search needs
-
-among-requires : tie.Need-among-requires
-among-requires c κs = search needs
-
 returns : tie.Need-returns
 unfolding wordByte
 returns c = rw (← c .before .is-letter .ensures, c .if1 .taken)
@@ -37,4 +31,4 @@ returns-4 c =
 
 pub is-word-byte-spec : {M : Type 1} → statement M
 is-word-byte-spec =
-    tie.close (tie.spec is-letter-requires among-requires returns returns-2 returns-3 returns-4)
+    tie.close (tie.spec (λ c κs. search needs) (λ c κs. search needs) returns returns-2 returns-3 returns-4)

@@ -14,18 +14,6 @@ use Rattle.tokens.proofs.Laws.{no-bytes}
 use Rattle.tokens.proofs.number_at.Statement.{statement}
 use Rattle.tokens.proofs.number_at.Tie as tie
 
-sub-read-unsigned : tie.Need-sub-read-unsigned
-sub-read-unsigned c = search needs
-
-part-read-unsigned-start : tie.Need-part-read-unsigned-start
-part-read-unsigned-start c = search needs
-
-part-read-unsigned-end : tie.Need-part-read-unsigned-end
-part-read-unsigned-end c = search needs
-
-read-unsigned-requires : tie.Need-read-unsigned-requires
-read-unsigned-requires c κs = search needs
-
 answered : (c : tie.After-read-unsigned) →
     let a = c .before .before .before .args in
     c .read-unsigned .result ≡ reading (drop (a .at) (a .text .now)) false no-limit
@@ -37,19 +25,10 @@ answered c =
 placed : (c : tie.After-read-unsigned) → readPlace (c .read-unsigned .result) ≤ longest
 placed c = rw (answered c) (reading-bounded _ _ _ .place)
 
-enum-known-n : tie.Need-enum-known-n
-enum-known-n c = search needs
-
 add-t13 : tie.Need-add-t13
 add-t13 c =
     let h = rw (c .before .before .n .given .1) at (placed (c .before .before .before .before)) in
     omega arith
-
-enum-known-number : tie.Need-enum-known-number
-enum-known-number c = search needs
-
-fault-of-requires : tie.Need-fault-of-requires
-fault-of-requires c κs = search needs
 
 add-t15 : tie.Need-add-t15
 add-t15 c =
@@ -72,14 +51,14 @@ pub number-at-spec : {M : Type 1} → statement M
 number-at-spec =
     tie.close
     (tie.spec
-    sub-read-unsigned
-    part-read-unsigned-start
-    part-read-unsigned-end
-    read-unsigned-requires
-    enum-known-n
+    (λ c. search needs)
+    (λ c. search needs)
+    (λ c. search needs)
+    (λ c κs. search needs)
+    (λ c. search needs)
     add-t13
-    enum-known-number
-    fault-of-requires
+    (λ c. search needs)
+    (λ c κs. search needs)
     add-t15
     returns
     returns-2)

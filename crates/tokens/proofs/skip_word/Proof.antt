@@ -35,12 +35,6 @@ further c = word-inside (text (c .before)) (at (c .before)) (judged (c .before) 
 loop-holds : tie.Need-loop-holds Inv-loop μ-loop
 loop-holds c = refl
 
-byte-requires : tie.Need-byte-requires Inv-loop μ-loop
-byte-requires c κs = search needs
-
-is-word-byte-requires : tie.Need-is-word-byte-requires Inv-loop μ-loop
-is-word-byte-requires c κs = search needs
-
 add-at : tie.Need-add-at Inv-loop μ-loop
 add-at c = omega (arith, further c)
 
@@ -60,8 +54,8 @@ skip-word-spec =
     Inv-loop
     μ-loop
     loop-holds
-    byte-requires
-    is-word-byte-requires
+    (λ c κs. search needs)
+    (λ c κs. search needs)
     add-at
     loop-less
     loop-again

@@ -31,15 +31,6 @@ spelt : (c : tie.Else1) →
     (eqb (a .a) (getD (a .word .now) 0 0) && (eqb (a .b) (getD (a .word .now) 1 0) && eqb (a .c) (getD (a .word .now) 2 0)))
 spelt c = three (c .before .args .a) (c .before .args .b) (c .before .args .c) (c .before .args .word .now) (c .if1 .left)
 
-shared-slice-read-if2 : tie.Need-shared-slice-read-if2
-shared-slice-read-if2 c = search needs
-
-shared-slice-read-if3 : tie.Need-shared-slice-read-if3
-shared-slice-read-if3 c = search needs
-
-shared-slice-read-result : tie.Need-shared-slice-read-result
-shared-slice-read-result c = search needs
-
 returns-2 : tie.Need-returns-2
 returns-2 c = rw (spelt (c .before .before .before .before .before), eq-eqb _ _ (c .before .before .before .if2 .taken), eq-eqb _ _ (c .before .if3 .taken))
 
@@ -54,9 +45,9 @@ spells-three-spec =
     tie.close
     (tie.spec
     returns
-    shared-slice-read-if2
-    shared-slice-read-if3
-    shared-slice-read-result
+    (λ c. search needs)
+    (λ c. search needs)
+    (λ c. search needs)
     returns-2
     returns-3
     returns-4)

@@ -27,12 +27,6 @@ spelt : (c : tie.Else1) →
     sameBytes (a .a ∷ a .b ∷ []) (a .word .now) ≡ (eqb (a .a) (getD (a .word .now) 0 0) && eqb (a .b) (getD (a .word .now) 1 0))
 spelt c = two (c .before .args .a) (c .before .args .b) (c .before .args .word .now) (c .if1 .left)
 
-shared-slice-read-if2 : tie.Need-shared-slice-read-if2
-shared-slice-read-if2 c = search needs
-
-shared-slice-read-result : tie.Need-shared-slice-read-result
-shared-slice-read-result c = search needs
-
 returns-2 : tie.Need-returns-2
 returns-2 c = rw (spelt (c .before .before .before), eq-eqb _ _ (c .before .if2 .taken))
 
@@ -41,4 +35,4 @@ returns-3 c = rw (spelt (c .before .before), ne-eqb _ _ (c .if2 .left))
 
 pub spells-two-spec : {M : Type 1} → statement M
 spells-two-spec =
-    tie.close (tie.spec returns shared-slice-read-if2 shared-slice-read-result returns-2 returns-3)
+    tie.close (tie.spec returns (λ c. search needs) (λ c. search needs) returns-2 returns-3)

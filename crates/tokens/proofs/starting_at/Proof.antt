@@ -16,20 +16,11 @@ inside c =
     let a = end .before .before .before .args in
     started (a .text .now) (a .at) (rw (end .before .byte .ensures) at (sym (end .is-end .ensures) ∙ c .if1 .left))
 
-byte-requires : tie.Need-byte-requires
-byte-requires c κs = search needs
-
-is-end-requires : tie.Need-is-end-requires
-is-end-requires c κs = search needs
-
 returns : tie.Need-returns
 unfolding startingAt
 returns c =
     let end = c .before in
     rw (← end .before .byte .ensures) (hit _ _ _ (sym (end .is-end .ensures) ∙ c .if1 .taken) (no-bytes _ _))
-
-is-letter-requires : tie.Need-is-letter-requires
-is-letter-requires c κs = search needs
 
 word-at-requires : tie.Need-word-at-requires
 word-at-requires c κs = omega (arith, inside (c .before .before))
@@ -42,9 +33,6 @@ returns-2 c =
     rw (← end .before .byte .ensures)
     (skip _ _ _ (sym (end .is-end .ensures) ∙ letter .before .if1 .left)
     (hit _ _ _ (sym (letter .is-letter .ensures) ∙ c .before .if2 .taken) (c .word-at .ensures)))
-
-starts-number-requires : tie.Need-starts-number-requires
-starts-number-requires c κs = search needs
 
 number-at-requires : tie.Need-number-at-requires
 number-at-requires c κs = omega (arith, inside (c .before .before .before .before))
@@ -78,13 +66,13 @@ pub starting-at-spec : {M : Type 1} → statement M
 starting-at-spec =
     tie.close
     (tie.spec
-    byte-requires
-    is-end-requires
+    (λ c κs. search needs)
+    (λ c κs. search needs)
     returns
-    is-letter-requires
+    (λ c κs. search needs)
     word-at-requires
     returns-2
-    starts-number-requires
+    (λ c κs. search needs)
     number-at-requires
     returns-3
     symbol-at-requires

@@ -5,38 +5,11 @@ use Rattle.tokens.specs.Tokens.{symbolAt}
 use Rattle.tokens.proofs.symbol_at.Statement.{statement}
 use Rattle.tokens.proofs.symbol_at.Tie as tie
 
-byte-requires : tie.Need-byte-requires
-byte-requires c κs = search needs
-
-add-byte : tie.Need-add-byte
-add-byte c = search needs
-
-byte-requires-2 : tie.Need-byte-requires-2
-byte-requires-2 c κs = search needs
-
-from-less-requires : tie.Need-from-less-requires
-from-less-requires c κs = search needs
-
 returns : tie.Need-returns
 unfolding symbolAt
 returns c =
     let less = c .before .before in
     rw (c .from-less .ensures, c .before .byte2 .ensures, ← less .before .byte .ensures, eq-eqb _ _ (less .if1 .taken))
-
-add-byte-2 : tie.Need-add-byte-2
-add-byte-2 c = search needs
-
-byte-requires-3 : tie.Need-byte-requires-3
-byte-requires-3 c κs = search needs
-
-add-byte-3 : tie.Need-add-byte-3
-add-byte-3 c = search needs
-
-byte-requires-4 : tie.Need-byte-requires-4
-byte-requires-4 c κs = search needs
-
-from-greater-requires : tie.Need-from-greater-requires
-from-greater-requires c κs = search needs
 
 returns-2 : tie.Need-returns-2
 unfolding symbolAt
@@ -52,12 +25,6 @@ returns-2 c =
       eq-eqb _ _ (behind .before .if2 .taken),
     )
 
-single-requires : tie.Need-single-requires
-single-requires c κs = search needs
-
-add-t12 : tie.Need-add-t12
-add-t12 c = search needs
-
 returns-3 : tie.Need-returns-3
 unfolding symbolAt
 returns-3 c =
@@ -68,17 +35,17 @@ pub symbol-at-spec : {M : Type 1} → statement M
 symbol-at-spec =
     tie.close
     (tie.spec
-    byte-requires
-    add-byte
-    byte-requires-2
-    from-less-requires
+    (λ c κs. search needs)
+    (λ c. search needs)
+    (λ c κs. search needs)
+    (λ c κs. search needs)
     returns
-    add-byte-2
-    byte-requires-3
-    add-byte-3
-    byte-requires-4
-    from-greater-requires
+    (λ c. search needs)
+    (λ c κs. search needs)
+    (λ c. search needs)
+    (λ c κs. search needs)
+    (λ c κs. search needs)
     returns-2
-    single-requires
-    add-t12
+    (λ c κs. search needs)
+    (λ c. search needs)
     returns-3)

@@ -19,20 +19,8 @@ word text at {token} {next} n t =
     let size : next - at ≡ wordRun (drop at text) = omega arith in
     ap₂ (λ token next. record { token = token; place = at; next = next }) (t ∙ ap (λ size. wordToken (take size (drop at text))) size) n
 
-skip-word-requires : tie.Need-skip-word-requires
-skip-word-requires c κs = search needs
-
-sub-word-token : tie.Need-sub-word-token
-sub-word-token c = search needs
-
-part-word-token-start : tie.Need-part-word-token-start
-part-word-token-start c = search needs
-
 part-word-token-end : tie.Need-part-word-token-end
 part-word-token-end c = let a = c .before .before .args in omega (arith, word-within (a .text .now) (a .at) (omega arith))
-
-word-token-requires : tie.Need-word-token-requires
-word-token-requires c κs = search needs
 
 returns : tie.Need-returns
 returns c =
@@ -43,9 +31,9 @@ pub word-at-spec : {M : Type 1} → statement M
 word-at-spec =
     tie.close
     (tie.spec
-    skip-word-requires
-    sub-word-token
-    part-word-token-start
+    (λ c κs. search needs)
+    (λ c. search needs)
+    (λ c. search needs)
     part-word-token-end
-    word-token-requires
+    (λ c κs. search needs)
     returns)

@@ -6,15 +6,9 @@ use Rattle.tokens.specs.Tokens.{wordToken}
 use Rattle.tokens.proofs.word_token.Statement.{statement}
 use Rattle.tokens.proofs.word_token.Tie as tie
 
-spells-three-requires : tie.Need-spells-three-requires
-spells-three-requires c κs = search needs
-
 returns : tie.Need-returns
 unfolding wordToken
 returns c = hit _ _ _ (sym (c .before .spells-three .ensures) ∙ c .if1 .taken) refl
-
-spells-three-requires-2 : tie.Need-spells-three-requires-2
-spells-three-requires-2 c κs = search needs
 
 returns-2 : tie.Need-returns-2
 unfolding wordToken
@@ -22,9 +16,6 @@ returns-2 c =
     let no-mod = c .before .before in
     skip _ _ _ (sym (no-mod .before .spells-three .ensures) ∙ no-mod .if1 .left)
     (hit _ _ _ (sym (c .before .spells-three2 .ensures) ∙ c .if2 .taken) refl)
-
-spells-two-requires : tie.Need-spells-two-requires
-spells-two-requires c κs = search needs
 
 returns-3 : tie.Need-returns-3
 unfolding wordToken
@@ -34,9 +25,6 @@ returns-3 c =
     skip _ _ _ (sym (no-mod .before .spells-three .ensures) ∙ no-mod .if1 .left)
     (skip _ _ _ (sym (no-and .before .spells-three2 .ensures) ∙ no-and .if2 .left)
     (hit _ _ _ (sym (c .before .spells-two .ensures) ∙ c .if3 .taken) refl))
-
-spells-three-requires-3 : tie.Need-spells-three-requires-3
-spells-three-requires-3 c κs = search needs
 
 returns-4 : tie.Need-returns-4
 unfolding wordToken
@@ -48,9 +36,6 @@ returns-4 c =
     (skip _ _ _ (sym (no-and .before .spells-three2 .ensures) ∙ no-and .if2 .left)
     (skip _ _ _ (sym (no-or .before .spells-two .ensures) ∙ no-or .if3 .left)
     (hit _ _ _ (sym (c .before .spells-three3 .ensures) ∙ c .if4 .taken) refl)))
-
-spells-three-requires-4 : tie.Need-spells-three-requires-4
-spells-three-requires-4 c κs = search needs
 
 returns-5 : tie.Need-returns-5
 unfolding wordToken
@@ -82,14 +67,14 @@ pub word-token-spec : {M : Type 1} → statement M
 word-token-spec =
     tie.close
     (tie.spec
-    spells-three-requires
+    (λ c κs. search needs)
     returns
-    spells-three-requires-2
+    (λ c κs. search needs)
     returns-2
-    spells-two-requires
+    (λ c κs. search needs)
     returns-3
-    spells-three-requires-3
+    (λ c κs. search needs)
     returns-4
-    spells-three-requires-4
+    (λ c κs. search needs)
     returns-5
     returns-6)

@@ -16,18 +16,9 @@ unkeyed : (table keys : List ℕ) {r : Checked} → r ≡ badTable over-length 0
 unkeyed table keys e =
     at-first table keys .laid ∙ ap (λ r. laidOver (linesOf (before table (reach table r))) keys) (sym e)
 
-bad-table-requires : tie.Need-bad-table-requires
-bad-table-requires c κs = search needs
-
 returns : tie.Need-returns
 unfolding checked
 returns c = (below _ _ _ _ (c .before .if1 .taken) (c .bad-table .ensures), unkeyed _ _ (c .bad-table .ensures))
-
-scan-requires : tie.Need-scan-requires
-scan-requires c κs = search needs
-
-same-length : tie.Need-same-length
-same-length c = search needs
 
 returns-2 : tie.Need-returns-2
 unfolding checked
@@ -36,4 +27,4 @@ returns-2 c =
     (not-below _ _ _ _ (s .before .before .if1 .left) (s .scan .ensures .0), s .scan .ensures .1)
 
 pub check-spec : {M : Type 1} → statement M
-check-spec = tie.close (tie.spec bad-table-requires returns scan-requires same-length returns-2)
+check-spec = tie.close (tie.spec (λ c κs. search needs) returns (λ c κs. search needs) (λ c. search needs) returns-2)

@@ -37,18 +37,6 @@ module _ (c : tie.After-find) where
       ap none (c .find .ensures ∙ ap (matchAs table) (by-keys table _ place (start .pre .1) ∙ ap (sought (before table place)) (c .before .name-at .ensures)))
       ∙ none-found table (sought (before table place) (nameAt table place))
 
-name-at-requires : tie.Need-name-at-requires
-name-at-requires c κs = search needs
-
-find-requires : tie.Need-find-requires
-find-requires c κs = search needs
-
-enum-told : tie.Need-enum-told
-enum-told c = search needs
-
-enum-told-2 : tie.Need-enum-told-2
-enum-told-2 c = search needs
-
 returns : tie.Need-returns
 returns c = sym (ap none (c .enum-told .given .1)) ∙ known (c .before .before)
 
@@ -59,9 +47,9 @@ pub is-new-spec : {M : Type 1} → statement M
 is-new-spec =
     tie.close
     (tie.spec
-    name-at-requires
-    find-requires
-    enum-told
-    enum-told-2
+    (λ c κs. search needs)
+    (λ c κs. search needs)
+    (λ c. search needs)
+    (λ c. search needs)
     returns
     returns-2)

@@ -5,12 +5,6 @@ use Rattle.variables.specs.Tables.{sound}
 use Rattle.variables.proofs.is_sound.Statement.{statement}
 use Rattle.variables.proofs.is_sound.Tie as tie
 
-is-shaped-requires : tie.Need-is-shaped-requires
-is-shaped-requires c κs = search needs
-
-is-new-requires : tie.Need-is-new-requires
-is-new-requires c κs = search needs
-
 returns : tie.Need-returns
 unfolding sound
 returns c = rw (c .is-new .ensures, sym (c .before .before .is-shaped .ensures) ∙ c .before .if1 .taken)
@@ -20,4 +14,4 @@ unfolding sound
 returns-2 c = rw (sym (c .before .is-shaped .ensures) ∙ c .if1 .left)
 
 pub is-sound-spec : {M : Type 1} → statement M
-is-sound-spec = tie.close (tie.spec is-shaped-requires is-new-requires returns returns-2)
+is-sound-spec = tie.close (tie.spec (λ c κs. search needs) (λ c κs. search needs) returns returns-2)

@@ -28,31 +28,10 @@ module _ (c : tie.After-key-table) where
   unfolding lookedUp
   in-table e = ap (foundIn _ _) (sym e ∙ c .key-table .ensures .checked)
 
-key-table-requires : tie.Need-key-table-requires
-key-table-requires c κs = search needs
-
-enum-known-checked : tie.Need-enum-known-checked
-enum-known-checked c = search needs
-
-sub-find : tie.Need-sub-find
-sub-find c = search needs
-
-part-find-start : tie.Need-part-find-start
-part-find-start c = search needs
-
 part-find-end : tie.Need-part-find-end
 part-find-end c =
     let k = c .before in
     lines-inside (k .before .before .before .before .before .key-table .ensures) (k .checked .given .1)
-
-find-requires : tie.Need-find-requires
-find-requires c κs = search needs
-
-as-found-requires : tie.Need-as-found-requires
-as-found-requires c κs = search needs
-
-enum-known-checked-2 : tie.Need-enum-known-checked-2
-enum-known-checked-2 c = search needs
 
 returns : tie.Need-returns
 returns c =
@@ -71,13 +50,13 @@ pub look-up-spec : {M : Type 1} → statement M
 look-up-spec =
     tie.close
     (tie.spec
-    key-table-requires
-    enum-known-checked
-    sub-find
-    part-find-start
+    (λ c κs. search needs)
+    (λ c. search needs)
+    (λ c. search needs)
+    (λ c. search needs)
     part-find-end
-    find-requires
-    as-found-requires
-    enum-known-checked-2
+    (λ c κs. search needs)
+    (λ c κs. search needs)
+    (λ c. search needs)
     returns
     returns-2)

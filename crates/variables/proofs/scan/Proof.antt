@@ -67,9 +67,6 @@ laid-to table keys place e = ap (λ r. laidOver (linesOf (before table (reach ta
 loop-holds : tie.Need-loop-holds Inv-loop μ-loop
 loop-holds c = (omega arith, omega arith, omega arith, omega arith, refl, at-first _ _)
 
-bad-table-requires : tie.Need-bad-table-requires Inv-loop μ-loop
-bad-table-requires c κs = search needs
-
 same-length : tie.Need-same-length Inv-loop μ-loop
 same-length c = omega arith
 
@@ -81,12 +78,6 @@ returns c =
       c .bad-table .ensures ∙ full _ _ _ (t .loop-test .taken) all ∙ sym (i .4),
       i .5 .laid ∙ laid-to _ _ _ (c .bad-table .ensures),
     )
-
-sub-is-sound : tie.Need-sub-is-sound Inv-loop μ-loop
-sub-is-sound c = search needs
-
-part-is-sound-start : tie.Need-part-is-sound-start Inv-loop μ-loop
-part-is-sound-start c = search needs
 
 part-is-sound-end : tie.Need-part-is-sound-end Inv-loop μ-loop
 part-is-sound-end c = omega arith
@@ -128,9 +119,6 @@ loop-again c =
       passed-more _ _ (i .5) few (i .2) (c .before .line-at .ensures) (c .next-place .ensures),
     )
 
-bad-table-requires-2 : tie.Need-bad-table-requires-2 Inv-loop μ-loop
-bad-table-requires-2 c κs = search needs
-
 same-length-2 : tie.Need-same-length-2 Inv-loop μ-loop
 same-length-2 c = omega arith
 
@@ -162,11 +150,11 @@ scan-spec =
     Inv-loop
     μ-loop
     loop-holds
-    bad-table-requires
+    (λ c κs. search needs)
     same-length
     returns
-    sub-is-sound
-    part-is-sound-start
+    (λ c. search needs)
+    (λ c. search needs)
     part-is-sound-end
     is-sound-requires
     line-at-requires
@@ -176,7 +164,7 @@ scan-spec =
     add-count
     loop-less
     loop-again
-    bad-table-requires-2
+    (λ c κs. search needs)
     same-length-2
     returns-2
     same-length-3

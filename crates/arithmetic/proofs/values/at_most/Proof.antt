@@ -11,9 +11,6 @@ use Rattle.arithmetic.specs.Values.{signed, less, atMost}
 use Rattle.arithmetic.proofs.values.at_most.Statement.{statement}
 use Rattle.arithmetic.proofs.values.at_most.Tie as tie
 
-less-requires : tie.Need-less-requires
-less-requires c κs = search needs
-
 not-below : (a b : ℕ) → not (ltb a b) ≡ leb b a
 not-below a b = go (ltb a b) refl
   where
@@ -34,4 +31,4 @@ returns c =
     ap not (c .less .ensures) ∙ not-less (signed (a .rhs)) (signed (a .lhs))
 
 pub at-most-spec : {M : Type 1} → statement M
-at-most-spec = tie.close (tie.spec less-requires returns)
+at-most-spec = tie.close (tie.spec (λ c κs. search needs) returns)

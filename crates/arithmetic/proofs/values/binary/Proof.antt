@@ -3,66 +3,6 @@ use borrow.Author.Needs.{needs}
 use Rattle.arithmetic.proofs.values.binary.Statement.{statement}
 use Rattle.arithmetic.proofs.values.binary.Tie as tie
 
-enum-told : tie.Need-enum-told
-enum-told c = search needs
-
-enum-known-operator : tie.Need-enum-known-operator
-enum-known-operator c = search needs
-
-enum-told-2 : tie.Need-enum-told-2
-enum-told-2 c = search needs
-
-product-requires : tie.Need-product-requires
-product-requires c κs = search needs
-
-enum-told-3 : tie.Need-enum-told-3
-enum-told-3 c = search needs
-
-quotient-requires : tie.Need-quotient-requires
-quotient-requires c κs = search needs
-
-enum-told-4 : tie.Need-enum-told-4
-enum-told-4 c = search needs
-
-remainder-requires : tie.Need-remainder-requires
-remainder-requires c κs = search needs
-
-enum-known-operator-2 : tie.Need-enum-known-operator-2
-enum-known-operator-2 c = search needs
-
-enum-told-5 : tie.Need-enum-told-5
-enum-told-5 c = search needs
-
-sum-requires : tie.Need-sum-requires
-sum-requires c κs = search needs
-
-enum-told-6 : tie.Need-enum-told-6
-enum-told-6 c = search needs
-
-difference-requires : tie.Need-difference-requires
-difference-requires c κs = search needs
-
-enum-known-operator-3 : tie.Need-enum-known-operator-3
-enum-known-operator-3 c = search needs
-
-related-requires : tie.Need-related-requires
-related-requires c κs = search needs
-
-enum-told-7 : tie.Need-enum-told-7
-enum-told-7 c = search needs
-
-enum-known-operator-4 : tie.Need-enum-known-operator-4
-enum-known-operator-4 c = search needs
-
-enum-told-8 : tie.Need-enum-told-8
-enum-told-8 c = search needs
-
-enum-told-9 : tie.Need-enum-told-9
-enum-told-9 c = search needs
-
-returns : tie.Need-returns
-returns c = search needs
-
 returns-2 : tie.Need-returns-2
 returns-2 c = rw (c .product .ensures, c .before .before .before .before .operator .given .1, c .before .enum-told2 .given .1)
 
@@ -94,26 +34,26 @@ pub binary-spec : {M : Type 1} → statement M
 binary-spec =
     tie.close
     (tie.spec
-    enum-told
-    enum-known-operator
-    enum-told-2
-    product-requires
-    enum-told-3
-    quotient-requires
-    enum-told-4
-    remainder-requires
-    enum-known-operator-2
-    enum-told-5
-    sum-requires
-    enum-told-6
-    difference-requires
-    enum-known-operator-3
-    related-requires
-    enum-told-7
-    enum-known-operator-4
-    enum-told-8
-    enum-told-9
-    returns
+    (λ c. search needs)
+    (λ c. search needs)
+    (λ c. search needs)
+    (λ c κs. search needs)
+    (λ c. search needs)
+    (λ c κs. search needs)
+    (λ c. search needs)
+    (λ c κs. search needs)
+    (λ c. search needs)
+    (λ c. search needs)
+    (λ c κs. search needs)
+    (λ c. search needs)
+    (λ c κs. search needs)
+    (λ c. search needs)
+    (λ c κs. search needs)
+    (λ c. search needs)
+    (λ c. search needs)
+    (λ c. search needs)
+    (λ c. search needs)
+    (λ c. search needs)
     returns-2
     returns-3
     returns-4

@@ -5,12 +5,9 @@ use Rattle.arithmetic.specs.Values.{difference}
 use Rattle.arithmetic.proofs.values.difference.Statement.{statement}
 use Rattle.arithmetic.proofs.values.difference.Tie as tie
 
-wrapping-sub-u32-requires : tie.Need-wrapping-sub-u32-requires
-wrapping-sub-u32-requires c κs = search needs
-
 returns : tie.Need-returns
 unfolding difference
 returns c = omega arith
 
 pub difference-spec : {M : Type 1} → statement M
-difference-spec = tie.close (tie.spec wrapping-sub-u32-requires returns)
+difference-spec = tie.close (tie.spec (λ c κs. search needs) returns)

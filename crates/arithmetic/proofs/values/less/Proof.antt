@@ -13,12 +13,6 @@ use Rattle.arithmetic.proofs.Signs.{by-sign}
 use Rattle.arithmetic.proofs.values.less.Statement.{statement}
 use Rattle.arithmetic.proofs.values.less.Tie as tie
 
-raised-requires : tie.Need-raised-requires
-raised-requires c κs = search needs
-
-raised-requires-2 : tie.Need-raised-requires-2
-raised-requires-2 c κs = search needs
-
 alike : (a b c d : ℕ) → (a < b → c < d) → (b ≤ a → d ≤ c) → ltb a b ≡ ltb c d
 alike a b c d f g = go (ltb a b) refl
   where
@@ -46,4 +40,4 @@ returns c =
     ap₂ ltb (c .before .raised .ensures) (c .raised2 .ensures) ∙ ordered (a .lhs) (a .rhs) (omega arith) (omega arith)
 
 pub less-spec : {M : Type 1} → statement M
-less-spec = tie.close (tie.spec raised-requires raised-requires-2 returns)
+less-spec = tie.close (tie.spec (λ c κs. search needs) (λ c κs. search needs) returns)

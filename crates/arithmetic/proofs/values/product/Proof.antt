@@ -14,12 +14,9 @@ mul-result c =
     let rhs : c .args .rhs ≤ 4294967295 = omega arith in
     omega (arith, mul-le-mul lhs rhs)
 
-cast-result : tie.Need-cast-result
-cast-result c = search needs
-
 returns : tie.Need-returns
 unfolding product
 returns c = refl
 
 pub product-spec : {M : Type 1} → statement M
-product-spec = tie.close (tie.spec mul-result cast-result returns)
+product-spec = tie.close (tie.spec mul-result (λ c. search needs) returns)

@@ -21,20 +21,8 @@ returns : tie.Need-returns
 unfolding quotient signed
 returns c = rw (c .if1 .taken) (over-zero (signed (c .before .args .lhs)))
 
-size-requires : tie.Need-size-requires
-size-requires c κs = search needs
-
-size-requires-2 : tie.Need-size-requires-2
-size-requires-2 c κs = search needs
-
 div-q : tie.Need-div-q
 div-q c = rw (c .size2 .ensures) (some-size (c .before .before .before .args .rhs) (c .before .before .if1 .left))
-
-is-negative-requires : tie.Need-is-negative-requires
-is-negative-requires c κs = search needs
-
-is-negative-requires-2 : tie.Need-is-negative-requires-2
-is-negative-requires-2 c κs = search needs
 
 -- an integer quotient by the sizes
 sized : (a b : ℤ)
@@ -62,9 +50,6 @@ by-sizes c same e =
 returns-2 : tie.Need-returns-2
 returns-2 c = sym (mod-eq-of-lt (whole-fits (c .before .before .before))) ∙ sym (by-sizes (c .before) true (c .if2 .taken))
 
-difference-requires : tie.Need-difference-requires
-difference-requires c κs = search needs
-
 returns-3 : tie.Need-returns-3
 returns-3 c =
     let n = c .before .before in
@@ -75,11 +60,11 @@ quotient-spec =
     tie.close
     (tie.spec
     returns
-    size-requires
-    size-requires-2
+    (λ c κs. search needs)
+    (λ c κs. search needs)
     div-q
-    is-negative-requires
-    is-negative-requires-2
+    (λ c κs. search needs)
+    (λ c κs. search needs)
     returns-2
-    difference-requires
+    (λ c κs. search needs)
     returns-3)

@@ -3,72 +3,6 @@ use borrow.Author.Needs.{needs}
 use Rattle.arithmetic.proofs.values.related.Statement.{statement}
 use Rattle.arithmetic.proofs.values.related.Tie as tie
 
-enum-told : tie.Need-enum-told
-enum-told c = search needs
-
-truth-requires : tie.Need-truth-requires
-truth-requires c κs = search needs
-
-enum-told-2 : tie.Need-enum-told-2
-enum-told-2 c = search needs
-
-truth-requires-2 : tie.Need-truth-requires-2
-truth-requires-2 c κs = search needs
-
-enum-told-3 : tie.Need-enum-told-3
-enum-told-3 c = search needs
-
-less-requires : tie.Need-less-requires
-less-requires c κs = search needs
-
-truth-requires-3 : tie.Need-truth-requires-3
-truth-requires-3 c κs = search needs
-
-enum-told-4 : tie.Need-enum-told-4
-enum-told-4 c = search needs
-
-less-requires-2 : tie.Need-less-requires-2
-less-requires-2 c κs = search needs
-
-truth-requires-4 : tie.Need-truth-requires-4
-truth-requires-4 c κs = search needs
-
-enum-told-5 : tie.Need-enum-told-5
-enum-told-5 c = search needs
-
-at-most-requires : tie.Need-at-most-requires
-at-most-requires c κs = search needs
-
-truth-requires-5 : tie.Need-truth-requires-5
-truth-requires-5 c κs = search needs
-
-enum-told-6 : tie.Need-enum-told-6
-enum-told-6 c = search needs
-
-at-most-requires-2 : tie.Need-at-most-requires-2
-at-most-requires-2 c κs = search needs
-
-truth-requires-6 : tie.Need-truth-requires-6
-truth-requires-6 c κs = search needs
-
-enum-told-7 : tie.Need-enum-told-7
-enum-told-7 c = search needs
-
-shifted-left-requires : tie.Need-shifted-left-requires
-shifted-left-requires c κs = search needs
-
-enum-told-8 : tie.Need-enum-told-8
-enum-told-8 c = search needs
-
-shifted-right-requires : tie.Need-shifted-right-requires
-shifted-right-requires c κs = search needs
-
-enum-told-9 : tie.Need-enum-told-9
-enum-told-9 c = search needs
-
-shifted-right-unsigned-requires : tie.Need-shifted-right-unsigned-requires
-shifted-right-unsigned-requires c κs = search needs
-
 returns : tie.Need-returns
 returns c = rw (c .truth .ensures, c .before .enum-told .given .1)
 
@@ -100,28 +34,28 @@ pub related-spec : {M : Type 1} → statement M
 related-spec =
     tie.close
     (tie.spec
-    enum-told
-    truth-requires
-    enum-told-2
-    truth-requires-2
-    enum-told-3
-    less-requires
-    truth-requires-3
-    enum-told-4
-    less-requires-2
-    truth-requires-4
-    enum-told-5
-    at-most-requires
-    truth-requires-5
-    enum-told-6
-    at-most-requires-2
-    truth-requires-6
-    enum-told-7
-    shifted-left-requires
-    enum-told-8
-    shifted-right-requires
-    enum-told-9
-    shifted-right-unsigned-requires
+    (λ c. search needs)
+    (λ c κs. search needs)
+    (λ c. search needs)
+    (λ c κs. search needs)
+    (λ c. search needs)
+    (λ c κs. search needs)
+    (λ c κs. search needs)
+    (λ c. search needs)
+    (λ c κs. search needs)
+    (λ c κs. search needs)
+    (λ c. search needs)
+    (λ c κs. search needs)
+    (λ c κs. search needs)
+    (λ c. search needs)
+    (λ c κs. search needs)
+    (λ c κs. search needs)
+    (λ c. search needs)
+    (λ c κs. search needs)
+    (λ c. search needs)
+    (λ c κs. search needs)
+    (λ c. search needs)
+    (λ c κs. search needs)
     returns
     returns-2
     returns-3

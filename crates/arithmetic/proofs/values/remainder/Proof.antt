@@ -21,20 +21,8 @@ returns : tie.Need-returns
 unfolding remainder signed
 returns c = rw (c .if1 .taken) (over-zero (c .before .args .lhs) (omega arith))
 
-size-requires : tie.Need-size-requires
-size-requires c κs = search needs
-
-size-requires-2 : tie.Need-size-requires-2
-size-requires-2 c κs = search needs
-
 rem-m : tie.Need-rem-m
 rem-m c = rw (c .size2 .ensures) (some-size (c .before .before .before .args .rhs) (c .before .before .if1 .left))
-
-is-negative-requires : tie.Need-is-negative-requires
-is-negative-requires c κs = search needs
-
-difference-requires : tie.Need-difference-requires
-difference-requires c κs = search needs
 
 -- an integer remainder by the sizes
 sized : (a b : ℤ) → remZ a b ≡ cond (ltZ a (pos 0)) (negℤ (pos (natAbs a % natAbs b))) (pos (natAbs a % natAbs b))
@@ -73,10 +61,10 @@ remainder-spec =
     tie.close
     (tie.spec
     returns
-    size-requires
-    size-requires-2
+    (λ c κs. search needs)
+    (λ c κs. search needs)
     rem-m
-    is-negative-requires
-    difference-requires
+    (λ c κs. search needs)
+    (λ c κs. search needs)
     returns-2
     returns-3)

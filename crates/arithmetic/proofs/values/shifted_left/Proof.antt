@@ -6,9 +6,6 @@ use Rattle.arithmetic.specs.Values.{shiftedLeft}
 use Rattle.arithmetic.proofs.values.shifted_left.Statement.{statement}
 use Rattle.arithmetic.proofs.values.shifted_left.Tie as tie
 
-shl-result : tie.Need-shl-result
-shl-result c = search needs
-
 returns : tie.Need-returns
 unfolding shiftedLeft
 returns c = below _ _ _ _ (c .if1 .taken) refl
@@ -18,4 +15,4 @@ unfolding shiftedLeft
 returns-2 c = not-below _ _ _ _ (c .if1 .left) refl
 
 pub shifted-left-spec : {M : Type 1} → statement M
-shifted-left-spec = tie.close (tie.spec shl-result returns returns-2)
+shifted-left-spec = tie.close (tie.spec (λ c. search needs) returns returns-2)

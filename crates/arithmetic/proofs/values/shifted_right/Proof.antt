@@ -14,18 +14,6 @@ use Rattle.arithmetic.proofs.Signs.{if-negative, if-positive}
 use Rattle.arithmetic.proofs.values.shifted_right.Statement.{statement}
 use Rattle.arithmetic.proofs.values.shifted_right.Tie as tie
 
-is-negative-requires : tie.Need-is-negative-requires
-is-negative-requires c κs = search needs
-
-sub-shifted-right-unsigned : tie.Need-sub-shifted-right-unsigned
-sub-shifted-right-unsigned c = search needs
-
-shifted-right-unsigned-requires : tie.Need-shifted-right-unsigned-requires
-shifted-right-unsigned-requires c κs = search needs
-
-sub-result : tie.Need-sub-result
-sub-result c = search needs
-
 -- what the definition gives, by its test of the amount, the number and the power of two
 abbrev shifted : Bool → ℤ → ℕ → ℕ
 shifted small z m = cond small (wrapped (shrZ z m)) (truth (ltZ z (pos 0)))
@@ -44,9 +32,6 @@ returns c =
     ∙ if-negative (λ z. 4294967295 - shiftedRightUnsigned (4294967295 - v) by ≡ shifted (ltb by 32) z (2 ^ by)) v
     (sym (n .is-negative .ensures) ∙ c .before .if1 .taken)
     (λ _. complement (ltb by 32) (4294967295 - v) (2 ^ by) (omega arith))
-
-shifted-right-unsigned-requires-2 : tie.Need-shifted-right-unsigned-requires-2
-shifted-right-unsigned-requires-2 c κs = search needs
 
 itself : (small : Bool) (n m : ℕ) → n < 4294967296 → cond small (n / m) 0 ≡ shifted small (pos n) m
 itself true n m fits = omega (arith, div-le-self n m)
@@ -67,10 +52,10 @@ pub shifted-right-spec : {M : Type 1} → statement M
 shifted-right-spec =
     tie.close
     (tie.spec
-    is-negative-requires
-    sub-shifted-right-unsigned
-    shifted-right-unsigned-requires
-    sub-result
+    (λ c κs. search needs)
+    (λ c. search needs)
+    (λ c κs. search needs)
+    (λ c. search needs)
     returns
-    shifted-right-unsigned-requires-2
+    (λ c κs. search needs)
     returns-2)

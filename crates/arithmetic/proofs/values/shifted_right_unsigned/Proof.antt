@@ -6,9 +6,6 @@ use Rattle.arithmetic.specs.Values.{shiftedRightUnsigned}
 use Rattle.arithmetic.proofs.values.shifted_right_unsigned.Statement.{statement}
 use Rattle.arithmetic.proofs.values.shifted_right_unsigned.Tie as tie
 
-shr-result : tie.Need-shr-result
-shr-result c = search needs
-
 returns : tie.Need-returns
 unfolding shiftedRightUnsigned
 returns c = below _ _ _ _ (c .if1 .taken) refl
@@ -18,4 +15,4 @@ unfolding shiftedRightUnsigned
 returns-2 c = not-below _ _ _ _ (c .if1 .left) refl
 
 pub shifted-right-unsigned-spec : {M : Type 1} → statement M
-shifted-right-unsigned-spec = tie.close (tie.spec shr-result returns returns-2)
+shifted-right-unsigned-spec = tie.close (tie.spec (λ c. search needs) returns returns-2)

@@ -8,12 +8,6 @@ use Rattle.arithmetic.proofs.Signs.{if-negative, if-positive}
 use Rattle.arithmetic.proofs.values.size.Statement.{statement}
 use Rattle.arithmetic.proofs.values.size.Tie as tie
 
-is-negative-requires : tie.Need-is-negative-requires
-is-negative-requires c κs = search needs
-
-difference-requires : tie.Need-difference-requires
-difference-requires c κs = search needs
-
 returns : tie.Need-returns
 unfolding difference
 returns c =
@@ -29,4 +23,4 @@ returns-2 c =
     if-positive (λ z. v ≡ natAbs z) v (sym (n .is-negative .ensures) ∙ c .if1 .left) (λ _. refl)
 
 pub size-spec : {M : Type 1} → statement M
-size-spec = tie.close (tie.spec is-negative-requires difference-requires returns returns-2)
+size-spec = tie.close (tie.spec (λ c κs. search needs) (λ c κs. search needs) returns returns-2)

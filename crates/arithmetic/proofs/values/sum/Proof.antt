@@ -4,12 +4,9 @@ use Rattle.arithmetic.specs.Values.{sum}
 use Rattle.arithmetic.proofs.values.sum.Statement.{statement}
 use Rattle.arithmetic.proofs.values.sum.Tie as tie
 
-wrapping-add-u32-requires : tie.Need-wrapping-add-u32-requires
-wrapping-add-u32-requires c κs = search needs
-
 returns : tie.Need-returns
 unfolding sum
 returns c = c .wrapping-add-u32 .ensures
 
 pub sum-spec : {M : Type 1} → statement M
-sum-spec = tie.close (tie.spec wrapping-add-u32-requires returns)
+sum-spec = tie.close (tie.spec (λ c κs. search needs) returns)

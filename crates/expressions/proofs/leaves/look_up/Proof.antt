@@ -84,50 +84,11 @@ module _ (c : tie.After-known-told) where
       recorded (a .place) (a .next) (a .left) (a .table .now) _ _ kind (sought-there looked) r (sought-own (a .table .now) (a .name .now))
       (c .before .v .given .1) (found looked) k h
 
-find-requires : tie.Need-find-requires
-find-requires c κs = search needs
-
-enum-told : tie.Need-enum-told
-enum-told c = search needs
-
-refused-requires : tie.Need-refused-requires
-refused-requires c κs = search needs
-
-enum-known-v : tie.Need-enum-known-v
-enum-known-v c = search needs
-
-enum-told-2 : tie.Need-enum-told-2
-enum-told-2 c = search needs
-
-refused-requires-2 : tie.Need-refused-requires-2
-refused-requires-2 c κs = search needs
-
-enum-told-3 : tie.Need-enum-told-3
-enum-told-3 c = search needs
-
-refused-requires-3 : tie.Need-refused-requires-3
-refused-requires-3 c κs = search needs
-
-enum-told-4 : tie.Need-enum-told-4
-enum-told-4 c = search needs
-
-refused-requires-4 : tie.Need-refused-requires-4
-refused-requires-4 c κs = search needs
-
 returns : tie.Need-returns
 returns c =
     let k = c .before .before .before .before in
     let a = start (looked k) .args in
     as-found k Integer _ (c .before .before .enum-told4 .given .1) (c .refused4 .ensures ∙ none-left (a .place) (a .next) (a .left) _ (c .before .if1 .taken))
-
-value-of-requires : tie.Need-value-of-requires
-value-of-requires c κs = search needs
-
-pattern-of-requires : tie.Need-pattern-of-requires
-pattern-of-requires c κs = search needs
-
-sub-t15 : tie.Need-sub-t15
-sub-t15 c = search needs
 
 returns-2 : tie.Need-returns-2
 returns-2 c =
@@ -153,20 +114,20 @@ pub look-up-spec : {M : Type 1} → statement M
 look-up-spec =
     tie.close
     (tie.spec
-    find-requires
-    enum-told
-    refused-requires
-    enum-known-v
-    enum-told-2
-    refused-requires-2
-    enum-told-3
-    refused-requires-3
-    enum-told-4
-    refused-requires-4
+    (λ c κs. search needs)
+    (λ c. search needs)
+    (λ c κs. search needs)
+    (λ c. search needs)
+    (λ c. search needs)
+    (λ c κs. search needs)
+    (λ c. search needs)
+    (λ c κs. search needs)
+    (λ c. search needs)
+    (λ c κs. search needs)
     returns
-    value-of-requires
-    pattern-of-requires
-    sub-t15
+    (λ c κs. search needs)
+    (λ c κs. search needs)
+    (λ c. search needs)
     returns-2
     returns-3
     returns-4

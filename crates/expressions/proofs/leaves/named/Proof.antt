@@ -22,15 +22,6 @@ module _ (names : List ℕ → Meaning) (word : List ℕ) (place next : ℕ) whe
       → Refused n first next ≡ partOf names account (tree (variable word place) next)
   refused-part n first account e = ap (λ a. partOf names a (tree (variable word place) next)) (sym e)
 
-enum-known-account : tie.Need-enum-known-account
-enum-known-account c = search needs
-
-look-up-requires : tie.Need-look-up-requires
-look-up-requires c κs = search needs
-
-enum-known-account-2 : tie.Need-enum-known-account-2
-enum-known-account-2 c = search needs
-
 returns : tie.Need-returns
 returns c = open-part _ _ _ _ _ _ _ (c .before .before .account .given .1) (c .look-up .ensures)
 
@@ -39,4 +30,4 @@ returns-2 c = refused-part _ _ _ _ _ _ _ (c .before .account2 .given .1)
 
 pub named-spec : {M : Type 1} → statement M
 named-spec =
-    tie.close (tie.spec enum-known-account look-up-requires enum-known-account-2 returns returns-2)
+    tie.close (tie.spec (λ c. search needs) (λ c κs. search needs) (λ c. search needs) returns returns-2)

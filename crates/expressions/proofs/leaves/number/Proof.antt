@@ -20,12 +20,6 @@ refused-part : (value next n place : ℕ) (account : Account) → account ≡ Re
     → (names : List ℕ → Meaning) → Refused n place next ≡ partOf names account (tree (constant value) next)
 refused-part value next n place account e names = ap (λ a. partOf names a (tree (constant value) next)) (sym e)
 
-enum-known-account : tie.Need-enum-known-account
-enum-known-account c = search needs
-
-enum-known-account-2 : tie.Need-enum-known-account-2
-enum-known-account-2 c = search needs
-
 returns : tie.Need-returns
 returns c = open-part _ _ _ _ (c .before .account .given .1)
 
@@ -33,4 +27,4 @@ returns-2 : tie.Need-returns-2
 returns-2 c = refused-part _ _ _ _ _ (c .before .account2 .given .1)
 
 pub number-spec : {M : Type 1} → statement M
-number-spec = tie.close (tie.spec enum-known-account enum-known-account-2 returns returns-2)
+number-spec = tie.close (tie.spec (λ c. search needs) (λ c. search needs) returns returns-2)

@@ -177,29 +177,14 @@ term-operand-requires t c κs = (omega (arith, c .before .before .before .pre .0
 term-loop-holds : (t : ℕ) → term-lts.Need-loop-holds (term-calls t) (term-at t) term.Post term-Inv-loop term-μ-loop
 term-loop-holds t c = λ account e. begins _ _ _ _ account _ _ e
 
-term-operator-behind-requires : (t : ℕ) → term-lts.Need-operator-behind-requires (term-calls t) (term-at t) term.Post term-Inv-loop term-μ-loop
-term-operator-behind-requires t c κs = search needs
-
-term-enum-told : (t : ℕ) → term-lts.Need-enum-told (term-calls t) (term-at t) term.Post term-Inv-loop term-μ-loop
-term-enum-told t c = search needs
-
 term-returns : (t : ℕ) → term-lts.Need-returns (term-calls t) (term-at t) term.Post term-Inv-loop term-μ-loop
 term-returns t c =
     let a = c .before .before .before .before .before .before .before .before .args in
     ends (namesOf (a .table .now)) (a .text .now) 0 (a .levels) (a .account) (a .at) _ (c .before .before .before .loop .inv (a .account) (c .before .before .before .before .operand .ensures))
     (sym (c .before .before .operator-behind .ensures) ∙ ap linkOf (c .enum-told .given .1))
 
-term-enum-known-operator : (t : ℕ) → term-lts.Need-enum-known-operator (term-calls t) (term-at t) term.Post term-Inv-loop term-μ-loop
-term-enum-known-operator t c = search needs
-
-term-account-of-requires : (t : ℕ) → term-lts.Need-account-of-requires (term-calls t) (term-at t) term.Post term-Inv-loop term-μ-loop
-term-account-of-requires t c κs = search needs
-
 term-operand-requires-2 : (t : ℕ) → term-lts.Need-operand-requires-2 (term-calls t) (term-at t) term.Post term-Inv-loop term-μ-loop
 term-operand-requires-2 t c κs = (omega (arith, c .before .before .before .before .before .before .before .before .before .before .pre .0), c .before .before .before .before .before .before .before .before .before .before .pre .1)
-
-term-joined-requires : (t : ℕ) → term-lts.Need-joined-requires (term-calls t) (term-at t) term.Post term-Inv-loop term-μ-loop
-term-joined-requires t c κs = search needs
 
 term-loop-less : (t : ℕ) → term-lts.Need-loop-less (term-calls t) (term-at t) term.Post term-Inv-loop term-μ-loop
 term-loop-less t c =
@@ -228,29 +213,14 @@ sum-term-requires t c κs = (omega (arith, c .before .before .before .pre .0), c
 sum-loop-holds : (t : ℕ) → sum-lts.Need-loop-holds (sum-calls t) (sum-at t) sum.Post sum-Inv-loop sum-μ-loop
 sum-loop-holds t c = λ account e. begins _ _ _ _ account _ _ e
 
-sum-operator-behind-requires : (t : ℕ) → sum-lts.Need-operator-behind-requires (sum-calls t) (sum-at t) sum.Post sum-Inv-loop sum-μ-loop
-sum-operator-behind-requires t c κs = search needs
-
-sum-enum-told : (t : ℕ) → sum-lts.Need-enum-told (sum-calls t) (sum-at t) sum.Post sum-Inv-loop sum-μ-loop
-sum-enum-told t c = search needs
-
 sum-returns : (t : ℕ) → sum-lts.Need-returns (sum-calls t) (sum-at t) sum.Post sum-Inv-loop sum-μ-loop
 sum-returns t c =
     let a = c .before .before .before .before .before .before .before .before .args in
     ends (namesOf (a .table .now)) (a .text .now) 1 (a .levels) (a .account) (a .at) _ (c .before .before .before .loop .inv (a .account) (c .before .before .before .before .term .ensures))
     (sym (c .before .before .operator-behind .ensures) ∙ ap linkOf (c .enum-told .given .1))
 
-sum-enum-known-operator : (t : ℕ) → sum-lts.Need-enum-known-operator (sum-calls t) (sum-at t) sum.Post sum-Inv-loop sum-μ-loop
-sum-enum-known-operator t c = search needs
-
-sum-account-of-requires : (t : ℕ) → sum-lts.Need-account-of-requires (sum-calls t) (sum-at t) sum.Post sum-Inv-loop sum-μ-loop
-sum-account-of-requires t c κs = search needs
-
 sum-term-requires-2 : (t : ℕ) → sum-lts.Need-term-requires-2 (sum-calls t) (sum-at t) sum.Post sum-Inv-loop sum-μ-loop
 sum-term-requires-2 t c κs = (omega (arith, c .before .before .before .before .before .before .before .before .before .before .pre .0), c .before .before .before .before .before .before .before .before .before .before .pre .1)
-
-sum-joined-requires : (t : ℕ) → sum-lts.Need-joined-requires (sum-calls t) (sum-at t) sum.Post sum-Inv-loop sum-μ-loop
-sum-joined-requires t c κs = search needs
 
 sum-loop-less : (t : ℕ) → sum-lts.Need-loop-less (sum-calls t) (sum-at t) sum.Post sum-Inv-loop sum-μ-loop
 sum-loop-less t c =
@@ -279,29 +249,14 @@ relation-sum-requires t c κs = (omega (arith, c .before .before .before .pre .0
 relation-loop-holds : (t : ℕ) → relation-lts.Need-loop-holds (relation-calls t) (relation-at t) relation.Post relation-Inv-loop relation-μ-loop
 relation-loop-holds t c = λ account e. begins _ _ _ _ account _ _ e
 
-relation-operator-behind-requires : (t : ℕ) → relation-lts.Need-operator-behind-requires (relation-calls t) (relation-at t) relation.Post relation-Inv-loop relation-μ-loop
-relation-operator-behind-requires t c κs = search needs
-
-relation-enum-told : (t : ℕ) → relation-lts.Need-enum-told (relation-calls t) (relation-at t) relation.Post relation-Inv-loop relation-μ-loop
-relation-enum-told t c = search needs
-
 relation-returns : (t : ℕ) → relation-lts.Need-returns (relation-calls t) (relation-at t) relation.Post relation-Inv-loop relation-μ-loop
 relation-returns t c =
     let a = c .before .before .before .before .before .before .before .before .args in
     ends (namesOf (a .table .now)) (a .text .now) 2 (a .levels) (a .account) (a .at) _ (c .before .before .before .loop .inv (a .account) (c .before .before .before .before .sum .ensures))
     (sym (c .before .before .operator-behind .ensures) ∙ ap linkOf (c .enum-told .given .1))
 
-relation-enum-known-operator : (t : ℕ) → relation-lts.Need-enum-known-operator (relation-calls t) (relation-at t) relation.Post relation-Inv-loop relation-μ-loop
-relation-enum-known-operator t c = search needs
-
-relation-account-of-requires : (t : ℕ) → relation-lts.Need-account-of-requires (relation-calls t) (relation-at t) relation.Post relation-Inv-loop relation-μ-loop
-relation-account-of-requires t c κs = search needs
-
 relation-sum-requires-2 : (t : ℕ) → relation-lts.Need-sum-requires-2 (relation-calls t) (relation-at t) relation.Post relation-Inv-loop relation-μ-loop
 relation-sum-requires-2 t c κs = (omega (arith, c .before .before .before .before .before .before .before .before .before .before .pre .0), c .before .before .before .before .before .before .before .before .before .before .pre .1)
-
-relation-joined-requires : (t : ℕ) → relation-lts.Need-joined-requires (relation-calls t) (relation-at t) relation.Post relation-Inv-loop relation-μ-loop
-relation-joined-requires t c κs = search needs
 
 relation-loop-less : (t : ℕ) → relation-lts.Need-loop-less (relation-calls t) (relation-at t) relation.Post relation-Inv-loop relation-μ-loop
 relation-loop-less t c =
@@ -330,29 +285,14 @@ conjunction-relation-requires t c κs = (omega (arith, c .before .before .before
 conjunction-loop-holds : (t : ℕ) → conjunction-lts.Need-loop-holds (conjunction-calls t) (conjunction-at t) conjunction.Post conjunction-Inv-loop conjunction-μ-loop
 conjunction-loop-holds t c = λ account e. begins _ _ _ _ account _ _ e
 
-conjunction-operator-behind-requires : (t : ℕ) → conjunction-lts.Need-operator-behind-requires (conjunction-calls t) (conjunction-at t) conjunction.Post conjunction-Inv-loop conjunction-μ-loop
-conjunction-operator-behind-requires t c κs = search needs
-
-conjunction-enum-told : (t : ℕ) → conjunction-lts.Need-enum-told (conjunction-calls t) (conjunction-at t) conjunction.Post conjunction-Inv-loop conjunction-μ-loop
-conjunction-enum-told t c = search needs
-
 conjunction-returns : (t : ℕ) → conjunction-lts.Need-returns (conjunction-calls t) (conjunction-at t) conjunction.Post conjunction-Inv-loop conjunction-μ-loop
 conjunction-returns t c =
     let a = c .before .before .before .before .before .before .before .before .args in
     ends (namesOf (a .table .now)) (a .text .now) 3 (a .levels) (a .account) (a .at) _ (c .before .before .before .loop .inv (a .account) (c .before .before .before .before .relation .ensures))
     (sym (c .before .before .operator-behind .ensures) ∙ ap linkOf (c .enum-told .given .1))
 
-conjunction-enum-known-operator : (t : ℕ) → conjunction-lts.Need-enum-known-operator (conjunction-calls t) (conjunction-at t) conjunction.Post conjunction-Inv-loop conjunction-μ-loop
-conjunction-enum-known-operator t c = search needs
-
-conjunction-account-of-requires : (t : ℕ) → conjunction-lts.Need-account-of-requires (conjunction-calls t) (conjunction-at t) conjunction.Post conjunction-Inv-loop conjunction-μ-loop
-conjunction-account-of-requires t c κs = search needs
-
 conjunction-relation-requires-2 : (t : ℕ) → conjunction-lts.Need-relation-requires-2 (conjunction-calls t) (conjunction-at t) conjunction.Post conjunction-Inv-loop conjunction-μ-loop
 conjunction-relation-requires-2 t c κs = (omega (arith, c .before .before .before .before .before .before .before .before .before .before .pre .0), c .before .before .before .before .before .before .before .before .before .before .pre .1)
-
-conjunction-joined-requires : (t : ℕ) → conjunction-lts.Need-joined-requires (conjunction-calls t) (conjunction-at t) conjunction.Post conjunction-Inv-loop conjunction-μ-loop
-conjunction-joined-requires t c κs = search needs
 
 conjunction-loop-less : (t : ℕ) → conjunction-lts.Need-loop-less (conjunction-calls t) (conjunction-at t) conjunction.Post conjunction-Inv-loop conjunction-μ-loop
 conjunction-loop-less t c =
@@ -381,29 +321,14 @@ disjunction-conjunction-requires t c κs = (omega (arith, c .before .before .bef
 disjunction-loop-holds : (t : ℕ) → disjunction-lts.Need-loop-holds (disjunction-calls t) (disjunction-at t) disjunction.Post disjunction-Inv-loop disjunction-μ-loop
 disjunction-loop-holds t c = λ account e. begins _ _ _ _ account _ _ e
 
-disjunction-operator-behind-requires : (t : ℕ) → disjunction-lts.Need-operator-behind-requires (disjunction-calls t) (disjunction-at t) disjunction.Post disjunction-Inv-loop disjunction-μ-loop
-disjunction-operator-behind-requires t c κs = search needs
-
-disjunction-enum-told : (t : ℕ) → disjunction-lts.Need-enum-told (disjunction-calls t) (disjunction-at t) disjunction.Post disjunction-Inv-loop disjunction-μ-loop
-disjunction-enum-told t c = search needs
-
 disjunction-returns : (t : ℕ) → disjunction-lts.Need-returns (disjunction-calls t) (disjunction-at t) disjunction.Post disjunction-Inv-loop disjunction-μ-loop
 disjunction-returns t c =
     let a = c .before .before .before .before .before .before .before .before .args in
     ends (namesOf (a .table .now)) (a .text .now) 4 (a .levels) (a .account) (a .at) _ (c .before .before .before .loop .inv (a .account) (c .before .before .before .before .conjunction .ensures))
     (sym (c .before .before .operator-behind .ensures) ∙ ap linkOf (c .enum-told .given .1))
 
-disjunction-enum-known-operator : (t : ℕ) → disjunction-lts.Need-enum-known-operator (disjunction-calls t) (disjunction-at t) disjunction.Post disjunction-Inv-loop disjunction-μ-loop
-disjunction-enum-known-operator t c = search needs
-
-disjunction-account-of-requires : (t : ℕ) → disjunction-lts.Need-account-of-requires (disjunction-calls t) (disjunction-at t) disjunction.Post disjunction-Inv-loop disjunction-μ-loop
-disjunction-account-of-requires t c κs = search needs
-
 disjunction-conjunction-requires-2 : (t : ℕ) → disjunction-lts.Need-conjunction-requires-2 (disjunction-calls t) (disjunction-at t) disjunction.Post disjunction-Inv-loop disjunction-μ-loop
 disjunction-conjunction-requires-2 t c κs = (omega (arith, c .before .before .before .before .before .before .before .before .before .before .pre .0), c .before .before .before .before .before .before .before .before .before .before .pre .1)
-
-disjunction-joined-requires : (t : ℕ) → disjunction-lts.Need-joined-requires (disjunction-calls t) (disjunction-at t) disjunction.Post disjunction-Inv-loop disjunction-μ-loop
-disjunction-joined-requires t c κs = search needs
 
 disjunction-loop-less : (t : ℕ) → disjunction-lts.Need-loop-less (disjunction-calls t) (disjunction-at t) disjunction.Post disjunction-Inv-loop disjunction-μ-loop
 disjunction-loop-less t c =
@@ -443,21 +368,6 @@ operand-calls t = (
   closed-reads.Learnt,
 )
 
-operand-token-at-requires : (t : ℕ) → operand-lts.Need-token-at-requires (operand-calls t) (operand-at t) operand.Post
-operand-token-at-requires t c κs = search needs
-
-operand-enum-known-token : (t : ℕ) → operand-lts.Need-enum-known-token (operand-calls t) (operand-at t) operand.Post
-operand-enum-known-token t c = search needs
-
-operand-number-requires : (t : ℕ) → operand-lts.Need-number-requires (operand-calls t) (operand-at t) operand.Post
-operand-number-requires t c κs = search needs
-
-operand-enum-known-token-2 : (t : ℕ) → operand-lts.Need-enum-known-token-2 (operand-calls t) (operand-at t) operand.Post
-operand-enum-known-token-2 t c = search needs
-
-operand-enum-told : (t : ℕ) → operand-lts.Need-enum-told (operand-calls t) (operand-at t) operand.Post
-operand-enum-told t c = search needs
-
 operand-sub-named : (t : ℕ) → operand-lts.Need-sub-named (operand-calls t) (operand-at t) operand.Post
 operand-sub-named t c =
     let a = c .before .before .before .before .before .before .args in
@@ -476,26 +386,11 @@ operand-part-named-end t c =
     let s = name-stands (namesOf (a .table .now)) (a .text .now) (a .account) (a .levels) (a .at) _ (c .before .before .token-at .ensures) (c .enum-told .given .1) in
     omega (arith, s .forward, s .within)
 
-operand-named-requires : (t : ℕ) → operand-lts.Need-named-requires (operand-calls t) (operand-at t) operand.Post
-operand-named-requires t c κs = search needs
-
-operand-enum-known-token-3 : (t : ℕ) → operand-lts.Need-enum-known-token-3 (operand-calls t) (operand-at t) operand.Post
-operand-enum-known-token-3 t c = search needs
-
-operand-stands-alone-requires : (t : ℕ) → operand-lts.Need-stands-alone-requires (operand-calls t) (operand-at t) operand.Post
-operand-stands-alone-requires t c κs = search needs
-
-operand-bad-requires : (t : ℕ) → operand-lts.Need-bad-requires (operand-calls t) (operand-at t) operand.Post
-operand-bad-requires t c κs = search needs
-
 operand-returns : (t : ℕ) → operand-lts.Need-returns (operand-calls t) (operand-at t) operand.Post
 operand-returns t c =
     let a = c .before .before .before .before .before .before .before .before .before .before .args in
     misplaced (namesOf (a .table .now)) (a .text .now) (a .account) (a .levels) (a .at) _ (c .before .before .before .before .before .before .token-at .ensures)
     _ (c .before .before .before .before .token3 .given .1) _ (ap not (sym (c .before .before .stands-alone .ensures)) ∙ c .before .if1 .taken) (c .bad .ensures)
-
-operand-too-deep-requires : (t : ℕ) → operand-lts.Need-too-deep-requires (operand-calls t) (operand-at t) operand.Post
-operand-too-deep-requires t c κs = search needs
 
 operand-returns-2 : (t : ℕ) → operand-lts.Need-returns-2 (operand-calls t) (operand-at t) operand.Post
 operand-returns-2 t c =
@@ -505,20 +400,8 @@ operand-returns-2 t c =
     ∙ operator-too-deep (namesOf (a .table .now)) (a .text .now) (a .account) (a .levels) (a .at) _ (k .before .before .before .before .before .before .token-at .ensures)
     _ (k .before .before .before .before .token3 .given .1) (ap not (sym (k .before .before .stands-alone .ensures)) ∙ k .before .if1 .left) (k .if2 .taken)
 
-operand-sub-operand : (t : ℕ) → operand-lts.Need-sub-operand (operand-calls t) (operand-at t) operand.Post
-operand-sub-operand t c = search needs
-
 operand-operand-requires : (t : ℕ) → operand-lts.Need-operand-requires (operand-calls t) (operand-at t) operand.Post
 operand-operand-requires t c κs = (omega (arith, c .before .before .before .before .before .before .before .before .before .before .pre .0, c .if2 .left), c .before .before .before .before .before .before .before .before .before .before .pre .1)
-
-operand-covered-requires : (t : ℕ) → operand-lts.Need-covered-requires (operand-calls t) (operand-at t) operand.Post
-operand-covered-requires t c κs = search needs
-
-operand-enum-told-2 : (t : ℕ) → operand-lts.Need-enum-told-2 (operand-calls t) (operand-at t) operand.Post
-operand-enum-told-2 t c = search needs
-
-operand-too-deep-requires-2 : (t : ℕ) → operand-lts.Need-too-deep-requires-2 (operand-calls t) (operand-at t) operand.Post
-operand-too-deep-requires-2 t c κs = search needs
 
 operand-returns-3 : (t : ℕ) → operand-lts.Need-returns-3 (operand-calls t) (operand-at t) operand.Post
 operand-returns-3 t c =
@@ -528,32 +411,8 @@ operand-returns-3 t c =
     ∙ bracket-too-deep (namesOf (a .table .now)) (a .text .now) (a .account) (a .levels) (a .at) _ (k .before .before .before .token-at .ensures)
     (k .before .enum-told2 .given .1) (k .if3 .taken)
 
-operand-sub-disjunction : (t : ℕ) → operand-lts.Need-sub-disjunction (operand-calls t) (operand-at t) operand.Post
-operand-sub-disjunction t c = search needs
-
 operand-disjunction-requires : (t : ℕ) → operand-lts.Need-disjunction-requires (operand-calls t) (operand-at t) operand.Post
 operand-disjunction-requires t c κs = (omega (arith, c .before .before .before .before .before .before .before .pre .0, c .if3 .left), c .before .before .before .before .before .before .before .pre .1)
-
-operand-closed-requires : (t : ℕ) → operand-lts.Need-closed-requires (operand-calls t) (operand-at t) operand.Post
-operand-closed-requires t c κs = search needs
-
-operand-enum-told-3 : (t : ℕ) → operand-lts.Need-enum-told-3 (operand-calls t) (operand-at t) operand.Post
-operand-enum-told-3 t c = search needs
-
-operand-bad-requires-2 : (t : ℕ) → operand-lts.Need-bad-requires-2 (operand-calls t) (operand-at t) operand.Post
-operand-bad-requires-2 t c κs = search needs
-
-operand-enum-told-4 : (t : ℕ) → operand-lts.Need-enum-told-4 (operand-calls t) (operand-at t) operand.Post
-operand-enum-told-4 t c = search needs
-
-operand-bad-requires-3 : (t : ℕ) → operand-lts.Need-bad-requires-3 (operand-calls t) (operand-at t) operand.Post
-operand-bad-requires-3 t c κs = search needs
-
-operand-enum-told-5 : (t : ℕ) → operand-lts.Need-enum-told-5 (operand-calls t) (operand-at t) operand.Post
-operand-enum-told-5 t c = search needs
-
-operand-bad-requires-4 : (t : ℕ) → operand-lts.Need-bad-requires-4 (operand-calls t) (operand-at t) operand.Post
-operand-bad-requires-4 t c κs = search needs
 
 operand-returns-4 : (t : ℕ) → operand-lts.Need-returns-4 (operand-calls t) (operand-at t) operand.Post
 operand-returns-4 t c =
@@ -609,58 +468,58 @@ pub +conjunction+disjunction+operand+relation+sum+term-spec : {M : Type 1} → s
     (λ t. conjunction-lts.spec (conjunction-calls t) (conjunction-at t) conjunction.Post conjunction-Inv-loop conjunction-μ-loop
     (conjunction-relation-requires t)
     (conjunction-loop-holds t)
-    (conjunction-operator-behind-requires t)
-    (conjunction-enum-told t)
+    (λ c κs. search needs)
+    (λ c. search needs)
     (conjunction-returns t)
-    (conjunction-enum-known-operator t)
-    (conjunction-account-of-requires t)
+    (λ c. search needs)
+    (λ c κs. search needs)
     (conjunction-relation-requires-2 t)
-    (conjunction-joined-requires t)
+    (λ c κs. search needs)
     (conjunction-loop-less t)
     (conjunction-loop-again t))
     (λ t. disjunction-lts.spec (disjunction-calls t) (disjunction-at t) disjunction.Post disjunction-Inv-loop disjunction-μ-loop
     (disjunction-conjunction-requires t)
     (disjunction-loop-holds t)
-    (disjunction-operator-behind-requires t)
-    (disjunction-enum-told t)
+    (λ c κs. search needs)
+    (λ c. search needs)
     (disjunction-returns t)
-    (disjunction-enum-known-operator t)
-    (disjunction-account-of-requires t)
+    (λ c. search needs)
+    (λ c κs. search needs)
     (disjunction-conjunction-requires-2 t)
-    (disjunction-joined-requires t)
+    (λ c κs. search needs)
     (disjunction-loop-less t)
     (disjunction-loop-again t))
     (λ t. operand-lts.spec (operand-calls t) (operand-at t) operand.Post
-    (operand-token-at-requires t)
-    (operand-enum-known-token t)
-    (operand-number-requires t)
-    (operand-enum-known-token-2 t)
-    (operand-enum-told t)
+    (λ c κs. search needs)
+    (λ c. search needs)
+    (λ c κs. search needs)
+    (λ c. search needs)
+    (λ c. search needs)
     (operand-sub-named t)
     (operand-part-named-start t)
     (operand-part-named-end t)
-    (operand-named-requires t)
-    (operand-enum-known-token-3 t)
-    (operand-stands-alone-requires t)
-    (operand-bad-requires t)
+    (λ c κs. search needs)
+    (λ c. search needs)
+    (λ c κs. search needs)
+    (λ c κs. search needs)
     (operand-returns t)
-    (operand-too-deep-requires t)
+    (λ c κs. search needs)
     (operand-returns-2 t)
-    (operand-sub-operand t)
+    (λ c. search needs)
     (operand-operand-requires t)
-    (operand-covered-requires t)
-    (operand-enum-told-2 t)
-    (operand-too-deep-requires-2 t)
+    (λ c κs. search needs)
+    (λ c. search needs)
+    (λ c κs. search needs)
     (operand-returns-3 t)
-    (operand-sub-disjunction t)
+    (λ c. search needs)
     (operand-disjunction-requires t)
-    (operand-closed-requires t)
-    (operand-enum-told-3 t)
-    (operand-bad-requires-2 t)
-    (operand-enum-told-4 t)
-    (operand-bad-requires-3 t)
-    (operand-enum-told-5 t)
-    (operand-bad-requires-4 t)
+    (λ c κs. search needs)
+    (λ c. search needs)
+    (λ c κs. search needs)
+    (λ c. search needs)
+    (λ c κs. search needs)
+    (λ c. search needs)
+    (λ c κs. search needs)
     (operand-returns-4 t)
     (operand-returns-5 t)
     (operand-returns-6 t)
@@ -672,36 +531,36 @@ pub +conjunction+disjunction+operand+relation+sum+term-spec : {M : Type 1} → s
     (λ t. relation-lts.spec (relation-calls t) (relation-at t) relation.Post relation-Inv-loop relation-μ-loop
     (relation-sum-requires t)
     (relation-loop-holds t)
-    (relation-operator-behind-requires t)
-    (relation-enum-told t)
+    (λ c κs. search needs)
+    (λ c. search needs)
     (relation-returns t)
-    (relation-enum-known-operator t)
-    (relation-account-of-requires t)
+    (λ c. search needs)
+    (λ c κs. search needs)
     (relation-sum-requires-2 t)
-    (relation-joined-requires t)
+    (λ c κs. search needs)
     (relation-loop-less t)
     (relation-loop-again t))
     (λ t. sum-lts.spec (sum-calls t) (sum-at t) sum.Post sum-Inv-loop sum-μ-loop
     (sum-term-requires t)
     (sum-loop-holds t)
-    (sum-operator-behind-requires t)
-    (sum-enum-told t)
+    (λ c κs. search needs)
+    (λ c. search needs)
     (sum-returns t)
-    (sum-enum-known-operator t)
-    (sum-account-of-requires t)
+    (λ c. search needs)
+    (λ c κs. search needs)
     (sum-term-requires-2 t)
-    (sum-joined-requires t)
+    (λ c κs. search needs)
     (sum-loop-less t)
     (sum-loop-again t))
     λ t. term-lts.spec (term-calls t) (term-at t) term.Post term-Inv-loop term-μ-loop
     (term-operand-requires t)
     (term-loop-holds t)
-    (term-operator-behind-requires t)
-    (term-enum-told t)
+    (λ c κs. search needs)
+    (λ c. search needs)
     (term-returns t)
-    (term-enum-known-operator t)
-    (term-account-of-requires t)
+    (λ c. search needs)
+    (λ c κs. search needs)
     (term-operand-requires-2 t)
-    (term-joined-requires t)
+    (λ c κs. search needs)
     (term-loop-less t)
     (term-loop-again t)

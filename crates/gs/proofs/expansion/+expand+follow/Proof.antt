@@ -99,12 +99,6 @@ expand-calls t = (
   follow.Post,
 )
 
-expand-open-requires : (t : ℕ) → expand-lts.Need-open-requires (expand-calls t) (expand-at t) expand.Post expand-Inv-loop expand-μ-loop
-expand-open-requires t c κs = search needs
-
-expand-is-ending-space-requires : (t : ℕ) → expand-lts.Need-is-ending-space-requires (expand-calls t) (expand-at t) expand.Post expand-Inv-loop expand-μ-loop
-expand-is-ending-space-requires t c κs = search needs
-
 expand-loop-holds : (t : ℕ) → expand-lts.Need-loop-holds (expand-calls t) (expand-at t) expand.Post expand-Inv-loop expand-μ-loop
 expand-loop-holds t c =
     let a = c .before .before .before .before .before .before .args in
@@ -124,9 +118,6 @@ expand-part-copy-start t c = omega (arith, c .plain-end .ensures .forward, c .pl
 expand-part-copy-end : (t : ℕ) → expand-lts.Need-part-copy-end (expand-calls t) (expand-at t) expand.Post expand-Inv-loop expand-μ-loop
 expand-part-copy-end t c = omega (arith, c .plain-end .ensures .forward, c .plain-end .ensures .inside)
 
-expand-copy-requires : (t : ℕ) → expand-lts.Need-copy-requires (expand-calls t) (expand-at t) expand.Post expand-Inv-loop expand-μ-loop
-expand-copy-requires t c κs = search needs
-
 expand-sub-far : (t : ℕ) → expand-lts.Need-sub-far (expand-calls t) (expand-at t) expand.Post expand-Inv-loop expand-μ-loop
 expand-sub-far t c = omega (arith, c .before .before .before .before .before .plain-end .ensures .forward)
 
@@ -135,9 +126,6 @@ expand-add-far t c =
     let run = c .before .before .before .before .before .plain-end .ensures in
     let w = c .before .before .before .before .before .before .loop .inv in
     omega (arith, c .before .before .before .before .before .before .before .before .before .before .before .before .before .pre .1, w .place, w .small, run .forward, run .inside)
-
-expand-symbol-at-requires : (t : ℕ) → expand-lts.Need-symbol-at-requires (expand-calls t) (expand-at t) expand.Post expand-Inv-loop expand-μ-loop
-expand-symbol-at-requires t c κs = search needs
 
 -- where the symbol at hand is known, behind a run of plain bytes
 module _ (t : ℕ) (c : expand-lts.After-symbol-at (expand-calls t) (expand-at t) expand.Post expand-Inv-loop expand-μ-loop) where
@@ -190,15 +178,6 @@ module _ (t : ℕ) (c : expand-lts.After-symbol-at (expand-calls t) (expand-at t
       (expand-passed .plain-end .ensures .inside)
       (sym (c .symbol-at .ensures) ∙ e)
 
-expand-enum-known-symbol : (t : ℕ) → expand-lts.Need-enum-known-symbol (expand-calls t) (expand-at t) expand.Post expand-Inv-loop expand-μ-loop
-expand-enum-known-symbol t c = search needs
-
-expand-ended-requires : (t : ℕ) → expand-lts.Need-ended-requires (expand-calls t) (expand-at t) expand.Post expand-Inv-loop expand-μ-loop
-expand-ended-requires t c κs = search needs
-
-expand-same-length : (t : ℕ) → expand-lts.Need-same-length (expand-calls t) (expand-at t) expand.Post expand-Inv-loop expand-μ-loop
-expand-same-length t c = search needs
-
 expand-returns : (t : ℕ) → expand-lts.Need-returns (expand-calls t) (expand-at t) expand.Post expand-Inv-loop expand-μ-loop
 expand-returns t c =
     let s = c .before .before .before .before in
@@ -208,18 +187,6 @@ expand-returns t c =
     subst (expand-read t s (expand-out t s)) (sym (c .ended .ensures))
     (at-end names (expands names (a .levels)) (expand-text t s) (a .flags .0) (a .left) (a .to) (a .out .now) (expand-mode t s) (expand-out t s) (expand-here t s) (expand-far t s) rest
     (c .before .before .symbol .given .0 .0) (expand-walk t s) (sym (s .symbol-at .ensures) ∙ c .before .before .symbol .given .1))
-
-expand-enum-known-symbol-2 : (t : ℕ) → expand-lts.Need-enum-known-symbol-2 (expand-calls t) (expand-at t) expand.Post expand-Inv-loop expand-μ-loop
-expand-enum-known-symbol-2 t c = search needs
-
-expand-number-requires : (t : ℕ) → expand-lts.Need-number-requires (expand-calls t) (expand-at t) expand.Post expand-Inv-loop expand-μ-loop
-expand-number-requires t c κs = search needs
-
-expand-refused-text-requires : (t : ℕ) → expand-lts.Need-refused-text-requires (expand-calls t) (expand-at t) expand.Post expand-Inv-loop expand-μ-loop
-expand-refused-text-requires t c κs = search needs
-
-expand-same-length-2 : (t : ℕ) → expand-lts.Need-same-length-2 (expand-calls t) (expand-at t) expand.Post expand-Inv-loop expand-μ-loop
-expand-same-length-2 t c = search needs
 
 expand-returns-2 : (t : ℕ) → expand-lts.Need-returns-2 (expand-calls t) (expand-at t) expand.Post expand-Inv-loop expand-μ-loop
 expand-returns-2 t c =
@@ -231,12 +198,6 @@ expand-returns-2 t c =
     subst (expand-read t s (expand-out t s)) (sym (c .refused-text .ensures ∙ ap (λ n. Refused n (faulty .0 .1 .0 .0)) (c .before .number .ensures)))
     (at-faulty names (expands names (a .levels)) (expand-text t s) (a .flags .0) (a .left) (a .to) (a .out .now) (expand-mode t s) (expand-out t s) (expand-here t s) (expand-far t s) rest
     (faulty .0 .0) (faulty .0 .1 .0) (expand-walk t s) (sym (s .symbol-at .ensures) ∙ faulty .1))
-
-expand-enum-known-symbol-3 : (t : ℕ) → expand-lts.Need-enum-known-symbol-3 (expand-calls t) (expand-at t) expand.Post expand-Inv-loop expand-μ-loop
-expand-enum-known-symbol-3 t c = search needs
-
-expand-put-requires : (t : ℕ) → expand-lts.Need-put-requires (expand-calls t) (expand-at t) expand.Post expand-Inv-loop expand-μ-loop
-expand-put-requires t c κs = search needs
 
 expand-add-far-2 : (t : ℕ) → expand-lts.Need-add-far-2 (expand-calls t) (expand-at t) expand.Post expand-Inv-loop expand-μ-loop
 expand-add-far-2 t c =
@@ -261,9 +222,6 @@ expand-loop-again t c =
     at-byte names (expands names (a .levels)) (expand-text t s) (a .flags .0) (a .left) (a .to) (a .out .now) (expand-mode t s) (expand-out t s) (expand-here t s) (expand-far t s) rest
     (byte .0 .0) (byte .0 .1 .0) _ (expand-walk t s) (sym (s .symbol-at .ensures) ∙ byte .1) (stands .forward) (stands .within) (c .before .before .put .ensures)
 
-expand-enum-known-symbol-4 : (t : ℕ) → expand-lts.Need-enum-known-symbol-4 (expand-calls t) (expand-at t) expand.Post expand-Inv-loop expand-μ-loop
-expand-enum-known-symbol-4 t c = search needs
-
 expand-sub-resolve : (t : ℕ) → expand-lts.Need-sub-resolve (expand-calls t) (expand-at t) expand.Post expand-Inv-loop expand-μ-loop
 expand-sub-resolve t c =
     let stands = expand-stands t (c .before .before .before) _ (c .before .symbol4 .given .1) in
@@ -279,9 +237,6 @@ expand-part-resolve-end t c =
     let stands = expand-stands t (c .before .before .before) _ (c .before .symbol4 .given .1) in
     omega (arith, stands .long, stands .behind, stands .within)
 
-expand-resolve-requires : (t : ℕ) → expand-lts.Need-resolve-requires (expand-calls t) (expand-at t) expand.Post expand-Inv-loop expand-μ-loop
-expand-resolve-requires t c κs = search needs
-
 expand-follow-requires : (t : ℕ) → expand-lts.Need-follow-requires (expand-calls t) (expand-at t) expand.Post expand-Inv-loop expand-μ-loop
 expand-follow-requires t c κs =
     let s = c .before .before .before .before .before .before in
@@ -294,9 +249,6 @@ expand-follow-requires t c κs =
       omega (arith, pre .0),
       (omega (arith, pre .1, w .place, w .small, w .inside), subst (λ r. lengthIn r ≤ 255) (sym (c .before .resolve .ensures)) small, pre .1 .2),
     )
-
-expand-enum-known-came : (t : ℕ) → expand-lts.Need-enum-known-came (expand-calls t) (expand-at t) expand.Post expand-Inv-loop expand-μ-loop
-expand-enum-known-came t c = search needs
 
 expand-loop-less-2 : (t : ℕ) → expand-lts.Need-loop-less-2 (expand-calls t) (expand-at t) expand.Post expand-Inv-loop expand-μ-loop
 expand-loop-less-2 t c =
@@ -321,12 +273,6 @@ expand-loop-again-2 t c =
     (r .0 .0) (r .0 .1 .0) (r .0 .1 .1 .0) (expand-walk t s) (sym (s .symbol-at .ensures) ∙ r .1) _ _ _
     (omega (arith, stands .begins, stands .long, stands .behind)) (stands .within)
     (came-through piece rest (expand-far t s) (expand-out t s) _ _ _ _ came (c .before .came .given .1))
-
-expand-enum-known-came-2 : (t : ℕ) → expand-lts.Need-enum-known-came-2 (expand-calls t) (expand-at t) expand.Post expand-Inv-loop expand-μ-loop
-expand-enum-known-came-2 t c = search needs
-
-expand-refused-text-requires-2 : (t : ℕ) → expand-lts.Need-refused-text-requires-2 (expand-calls t) (expand-at t) expand.Post expand-Inv-loop expand-μ-loop
-expand-refused-text-requires-2 t c κs = search needs
 
 expand-same-length-3 : (t : ℕ) → expand-lts.Need-same-length-3 (expand-calls t) (expand-at t) expand.Post expand-Inv-loop expand-μ-loop
 expand-same-length-3 t c =
@@ -377,54 +323,12 @@ follow-calls t = (
 part-short : (table value : List ℕ) (v : Variable) → value ≡ partOf table v → v .length ≤ 255 → length value ≤ 255
 part-short table value v e small = omega (arith, ap length e, length-take (v .length) (drop (v .start) table))
 
-follow-enum-known-referred : (t : ℕ) → follow-lts.Need-enum-known-referred (follow-calls t) (follow-at t) follow.Post
-follow-enum-known-referred t c = search needs
-
-follow-put-requires : (t : ℕ) → follow-lts.Need-put-requires (follow-calls t) (follow-at t) follow.Post
-follow-put-requires t c κs = search needs
-
-follow-add-t18 : (t : ℕ) → follow-lts.Need-add-t18 (follow-calls t) (follow-at t) follow.Post
-follow-add-t18 t c = search needs
-
-follow-enum-told : (t : ℕ) → follow-lts.Need-enum-told (follow-calls t) (follow-at t) follow.Post
-follow-enum-told t c = search needs
-
-follow-refused-reference-requires : (t : ℕ) → follow-lts.Need-refused-reference-requires (follow-calls t) (follow-at t) follow.Post
-follow-refused-reference-requires t c κs = search needs
-
-follow-enum-told-2 : (t : ℕ) → follow-lts.Need-enum-told-2 (follow-calls t) (follow-at t) follow.Post
-follow-enum-told-2 t c = search needs
-
-follow-refused-reference-requires-2 : (t : ℕ) → follow-lts.Need-refused-reference-requires-2 (follow-calls t) (follow-at t) follow.Post
-follow-refused-reference-requires-2 t c κs = search needs
-
-follow-enum-known-referred-2 : (t : ℕ) → follow-lts.Need-enum-known-referred-2 (follow-calls t) (follow-at t) follow.Post
-follow-enum-known-referred-2 t c = search needs
-
-follow-value-of-requires : (t : ℕ) → follow-lts.Need-value-of-requires (follow-calls t) (follow-at t) follow.Post
-follow-value-of-requires t c κs = search needs
-
 follow-give-requires : (t : ℕ) → follow-lts.Need-give-requires (follow-calls t) (follow-at t) follow.Post
 follow-give-requires t c κs =
     let k = c .before .before .before .referred2 .given in (
       part-short (c .before .before .before .before .before .before .before .before .args .table .now) _ (k .0 .0) (c .before .value-of .ensures) (subst (λ r. lengthIn r ≤ 255) (k .1) (c .before .before .before .before .before .before .before .before .pre .1 .1)),
       omega (arith, c .before .before .before .before .before .before .before .before .pre .1 .0),
     )
-
-follow-enum-known-referred-3 : (t : ℕ) → follow-lts.Need-enum-known-referred-3 (follow-calls t) (follow-at t) follow.Post
-follow-enum-known-referred-3 t c = search needs
-
-follow-value-of-requires-2 : (t : ℕ) → follow-lts.Need-value-of-requires-2 (follow-calls t) (follow-at t) follow.Post
-follow-value-of-requires-2 t c κs = search needs
-
-follow-give-integer-requires : (t : ℕ) → follow-lts.Need-give-integer-requires (follow-calls t) (follow-at t) follow.Post
-follow-give-integer-requires t c κs = search needs
-
-follow-enum-known-referred-4 : (t : ℕ) → follow-lts.Need-enum-known-referred-4 (follow-calls t) (follow-at t) follow.Post
-follow-enum-known-referred-4 t c = search needs
-
-follow-refused-reference-requires-3 : (t : ℕ) → follow-lts.Need-refused-reference-requires-3 (follow-calls t) (follow-at t) follow.Post
-follow-refused-reference-requires-3 t c κs = search needs
 
 follow-returns : (t : ℕ) → follow-lts.Need-returns (follow-calls t) (follow-at t) follow.Post
 follow-returns t c name =
@@ -433,9 +337,6 @@ follow-returns t c name =
     let k = c .before .before .before .referred4 .given in
     too-deep-gives (a .table .now) (a .referred) name (a .left) (a .place) (a .to) (a .out .now) names (a .levels) (k .0 .0) (k .1) _ (c .before .if1 .taken) (c .refused-reference3 .ensures)
 
-follow-refused-reference-requires-4 : (t : ℕ) → follow-lts.Need-refused-reference-requires-4 (follow-calls t) (follow-at t) follow.Post
-follow-refused-reference-requires-4 t c κs = search needs
-
 follow-returns-2 : (t : ℕ) → follow-lts.Need-returns-2 (follow-calls t) (follow-at t) follow.Post
 follow-returns-2 t c name =
     let a = c .before .before .before .before .before .before .before .before .before .args in
@@ -443,29 +344,11 @@ follow-returns-2 t c name =
     let k = c .before .before .before .before .referred4 .given in
     spent-gives (a .table .now) (a .referred) name (a .left) (a .place) (a .to) (a .out .now) names (a .levels) (k .0 .0) (k .1) _ (c .before .before .if1 .left) (c .before .if2 .taken) (c .refused-reference4 .ensures)
 
-follow-value-of-requires-3 : (t : ℕ) → follow-lts.Need-value-of-requires-3 (follow-calls t) (follow-at t) follow.Post
-follow-value-of-requires-3 t c κs = search needs
-
-follow-none-requires : (t : ℕ) → follow-lts.Need-none-requires (follow-calls t) (follow-at t) follow.Post
-follow-none-requires t c κs = search needs
-
-follow-sub-expand : (t : ℕ) → follow-lts.Need-sub-expand (follow-calls t) (follow-at t) follow.Post
-follow-sub-expand t c = search needs
-
-follow-sub-expand-2 : (t : ℕ) → follow-lts.Need-sub-expand-2 (follow-calls t) (follow-at t) follow.Post
-follow-sub-expand-2 t c = search needs
-
 follow-expand-requires : (t : ℕ) → follow-lts.Need-expand-requires (follow-calls t) (follow-at t) follow.Post
 follow-expand-requires t c κs =
     let k = c .before .before .before .before .before .before .referred4 .given in
     let short = part-short (c .before .before .before .before .before .before .before .before .before .before .before .args .table .now) _ (k .0 .0) (c .before .before .value-of3 .ensures) (subst (λ r. lengthIn r ≤ 255) (k .1) (c .before .before .before .before .before .before .before .before .before .before .before .pre .1 .1)) in
     (omega (arith, c .before .before .before .before .before .before .before .before .before .before .before .pre .0, c .before .before .before .before .if1 .left), (omega (arith, short), omega (arith, short, c .before .before .before .before .before .before .before .before .before .before .before .pre .1 .0, c .before .before .before .if2 .left), c .before .before .before .before .before .before .before .before .before .before .before .pre .1 .2))
-
-follow-progress-of-requires : (t : ℕ) → follow-lts.Need-progress-of-requires (follow-calls t) (follow-at t) follow.Post
-follow-progress-of-requires t c κs = search needs
-
-follow-same-length : (t : ℕ) → follow-lts.Need-same-length (follow-calls t) (follow-at t) follow.Post
-follow-same-length t c = search needs
 
 follow-returns-3 : (t : ℕ) → follow-lts.Need-returns-3 (follow-calls t) (follow-at t) follow.Post
 follow-returns-3 t c name =
@@ -486,9 +369,6 @@ follow-returns-5 t c name =
     let names = namesOf (a .table .now) in
     unknown-gives (a .table .now) (a .referred) name (a .left) (a .place) (a .to) (a .out .now) (expands names (a .levels)) _ (c .before .enum-told2 .given .1) (c .refused-reference2 .ensures)
 
-follow-same-length-2 : (t : ℕ) → follow-lts.Need-same-length-2 (follow-calls t) (follow-at t) follow.Post
-follow-same-length-2 t c = search needs
-
 follow-returns-6 : (t : ℕ) → follow-lts.Need-returns-6 (follow-calls t) (follow-at t) follow.Post
 follow-returns-6 t c name =
     let a = c .before .before .before .before .before .before .before .before .before .before .before .args in
@@ -496,18 +376,12 @@ follow-returns-6 t c name =
     let k = c .before .before .before .before .before .before .referred2 .given in
     text-gives (a .table .now) (a .referred) name (a .left) (a .place) (a .to) (a .out .now) (expands names (a .levels)) (k .0 .0) _ _ _ (k .1) (c .before .before .before .before .value-of .ensures) (c .before .before .give .ensures name)
 
-follow-same-length-3 : (t : ℕ) → follow-lts.Need-same-length-3 (follow-calls t) (follow-at t) follow.Post
-follow-same-length-3 t c = search needs
-
 follow-returns-7 : (t : ℕ) → follow-lts.Need-returns-7 (follow-calls t) (follow-at t) follow.Post
 follow-returns-7 t c name =
     let a = c .before .before .before .before .before .before .before .before .before .before .before .args in
     let names = namesOf (a .table .now) in
     let k = c .before .before .before .before .before .before .referred3 .given in
     integer-gives (a .table .now) (a .referred) name (a .left) (a .place) (a .to) (a .out .now) (expands names (a .levels)) (k .0 .0) _ _ _ (k .1) (c .before .before .before .before .value-of2 .ensures) (c .before .before .give-integer .ensures name)
-
-follow-same-length-4 : (t : ℕ) → follow-lts.Need-same-length-4 (follow-calls t) (follow-at t) follow.Post
-follow-same-length-4 t c = search needs
 
 follow-returns-8 : (t : ℕ) → follow-lts.Need-returns-8 (follow-calls t) (follow-at t) follow.Post
 follow-returns-8 t c name =
@@ -526,77 +400,77 @@ pub +expand+follow-spec : {M : Type 1} → statement M
     expand.Post
     expand-Inv-loop
     expand-μ-loop
-    (expand-open-requires t)
-    (expand-is-ending-space-requires t)
+    (λ c κs. search needs)
+    (λ c κs. search needs)
     (expand-loop-holds t)
     (expand-plain-end-requires t)
     (expand-sub-copy t)
     (expand-part-copy-start t)
     (expand-part-copy-end t)
-    (expand-copy-requires t)
+    (λ c κs. search needs)
     (expand-sub-far t)
     (expand-add-far t)
-    (expand-symbol-at-requires t)
-    (expand-enum-known-symbol t)
-    (expand-ended-requires t)
-    (expand-same-length t)
+    (λ c κs. search needs)
+    (λ c. search needs)
+    (λ c κs. search needs)
+    (λ c. search needs)
     (expand-returns t)
-    (expand-enum-known-symbol-2 t)
-    (expand-number-requires t)
-    (expand-refused-text-requires t)
-    (expand-same-length-2 t)
+    (λ c. search needs)
+    (λ c κs. search needs)
+    (λ c κs. search needs)
+    (λ c. search needs)
     (expand-returns-2 t)
-    (expand-enum-known-symbol-3 t)
-    (expand-put-requires t)
+    (λ c. search needs)
+    (λ c κs. search needs)
     (expand-add-far-2 t)
     (expand-loop-less t)
     (expand-loop-again t)
-    (expand-enum-known-symbol-4 t)
+    (λ c. search needs)
     (expand-sub-resolve t)
     (expand-part-resolve-start t)
     (expand-part-resolve-end t)
-    (expand-resolve-requires t)
+    (λ c κs. search needs)
     (expand-follow-requires t)
-    (expand-enum-known-came t)
+    (λ c. search needs)
     (expand-loop-less-2 t)
     (expand-loop-again-2 t)
-    (expand-enum-known-came-2 t)
-    (expand-refused-text-requires-2 t)
+    (λ c. search needs)
+    (λ c κs. search needs)
     (expand-same-length-3 t)
     (expand-returns-3 t))
     λ t. follow-lts.spec (follow-calls t) (follow-at t)
     follow.Post
-    (follow-enum-known-referred t)
-    (follow-put-requires t)
-    (follow-add-t18 t)
-    (follow-enum-told t)
-    (follow-refused-reference-requires t)
-    (follow-enum-told-2 t)
-    (follow-refused-reference-requires-2 t)
-    (follow-enum-known-referred-2 t)
-    (follow-value-of-requires t)
+    (λ c. search needs)
+    (λ c κs. search needs)
+    (λ c. search needs)
+    (λ c. search needs)
+    (λ c κs. search needs)
+    (λ c. search needs)
+    (λ c κs. search needs)
+    (λ c. search needs)
+    (λ c κs. search needs)
     (follow-give-requires t)
-    (follow-enum-known-referred-3 t)
-    (follow-value-of-requires-2 t)
-    (follow-give-integer-requires t)
-    (follow-enum-known-referred-4 t)
-    (follow-refused-reference-requires-3 t)
+    (λ c. search needs)
+    (λ c κs. search needs)
+    (λ c κs. search needs)
+    (λ c. search needs)
+    (λ c κs. search needs)
     (follow-returns t)
-    (follow-refused-reference-requires-4 t)
+    (λ c κs. search needs)
     (follow-returns-2 t)
-    (follow-value-of-requires-3 t)
-    (follow-none-requires t)
-    (follow-sub-expand t)
-    (follow-sub-expand-2 t)
+    (λ c κs. search needs)
+    (λ c κs. search needs)
+    (λ c. search needs)
+    (λ c. search needs)
     (follow-expand-requires t)
-    (follow-progress-of-requires t)
-    (follow-same-length t)
+    (λ c κs. search needs)
+    (λ c. search needs)
     (follow-returns-3 t)
     (follow-returns-4 t)
     (follow-returns-5 t)
-    (follow-same-length-2 t)
+    (λ c. search needs)
     (follow-returns-6 t)
-    (follow-same-length-3 t)
+    (λ c. search needs)
     (follow-returns-7 t)
-    (follow-same-length-4 t)
+    (λ c. search needs)
     (follow-returns-8 t)

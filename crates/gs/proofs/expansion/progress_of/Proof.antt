@@ -5,15 +5,6 @@ use Rattle.gs.specs.inner.Steps.{progressOf}
 use Rattle.gs.proofs.expansion.progress_of.Statement.{statement}
 use Rattle.gs.proofs.expansion.progress_of.Tie as tie
 
-enum-known-came : tie.Need-enum-known-came
-enum-known-came c = search needs
-
-enum-known-came-2 : tie.Need-enum-known-came-2
-enum-known-came-2 c = search needs
-
-refused-reference-requires : tie.Need-refused-reference-requires
-refused-reference-requires c κs = search needs
-
 returns : tie.Need-returns
 returns c = ap (λ e. progressOf e (c .before .before .before .args .place)) (sym (c .before .came .given .1))
 
@@ -21,4 +12,4 @@ returns-2 : tie.Need-returns-2
 returns-2 c = c .refused-reference .ensures ∙ ap (λ e. progressOf e (c .before .before .before .before .args .place)) (sym (c .before .before .came2 .given .1))
 
 pub progress-of-spec : {M : Type 1} → statement M
-progress-of-spec = tie.close (tie.spec enum-known-came enum-known-came-2 refused-reference-requires returns returns-2)
+progress-of-spec = tie.close (tie.spec (λ c. search needs) (λ c. search needs) (λ c κs. search needs) returns returns-2)

@@ -11,12 +11,6 @@ use Rattle.gs.proofs.references.as_name.Tie as tie
 returns : tie.Need-returns
 returns c = same _ _ _ _ (c .if1 .taken) refl
 
-find-requires : tie.Need-find-requires
-find-requires c κs = search needs
-
-as-matched-requires : tie.Need-as-matched-requires
-as-matched-requires c κs = search needs
-
 returns-2 : tie.Need-returns-2
 returns-2 c =
     let a = c .before .before .before .before .before .before in
@@ -26,4 +20,4 @@ returns-2 c =
     other _ _ _ _ (c .before .before .if1 .left) (c .as-matched .ensures ∙ ap matchedAs found)
 
 pub as-name-spec : {M : Type 1} → statement M
-as-name-spec = tie.close (tie.spec returns find-requires as-matched-requires returns-2)
+as-name-spec = tie.close (tie.spec returns (λ c κs. search needs) (λ c κs. search needs) returns-2)

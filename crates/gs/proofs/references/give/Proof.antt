@@ -33,22 +33,11 @@ returns c name =
     let a = c .before .before .before .args in
     none-left (a .given .now) (a .out .now) name (a .left) (a .place) (a .to) (c .if1 .taken)
 
-copy-requires : tie.Need-copy-requires
-copy-requires c κs = search needs
-
-add-t11 : tie.Need-add-t11
-add-t11 c = search needs
-
-sub-t12 : tie.Need-sub-t12
-sub-t12 c = search needs
-
-same-length : tie.Need-same-length
-same-length c = search needs
-
 returns-2 : tie.Need-returns-2
 returns-2 c name =
     let a = c .before .before .before .before .before .before .before .args in
     some-left (a .given .now) (a .out .now) name (a .left) (a .place) (a .to) _ (c .before .before .before .before .if1 .left) (c .before .before .before .before .before .before .before .pre .0) (c .before .before .copy .ensures)
 
 pub give-spec : {M : Type 1} → statement M
-give-spec = tie.close (tie.spec returns copy-requires add-t11 sub-t12 same-length returns-2)
+give-spec =
+    tie.close (tie.spec returns (λ c κs. search needs) (λ c. search needs) (λ c. search needs) (λ c. search needs) returns-2)

@@ -14,18 +14,6 @@ use Rattle.gs.specs.inner.Steps.{Came}
 use Rattle.gs.proofs.references.give_integer.Statement.{statement}
 use Rattle.gs.proofs.references.give_integer.Tie as tie
 
-pattern-of-requires : tie.Need-pattern-of-requires
-pattern-of-requires c κs = search needs
-
-signed-decimal-requires : tie.Need-signed-decimal-requires
-signed-decimal-requires c κs = search needs
-
-sub-give : tie.Need-sub-give
-sub-give c = search needs
-
-part-give-start : tie.Need-part-give-start
-part-give-start c = search needs
-
 part-give-end : tie.Need-part-give-end
 part-give-end c =
     let w = c .before .signed-decimal in
@@ -42,12 +30,6 @@ lent c =
     ∙ ap (take (length string)) (w .ensures .1)
     ∙ take-append-seam string _
 
-give-requires : tie.Need-give-requires
-give-requires c κs = search needs
-
-same-length : tie.Need-same-length
-same-length c = search needs
-
 returns : tie.Need-returns
 returns c name =
     let g = c .before .before in
@@ -61,11 +43,11 @@ pub give-integer-spec : {M : Type 1} → statement M
 give-integer-spec =
     tie.close
     (tie.spec
-    pattern-of-requires
-    signed-decimal-requires
-    sub-give
-    part-give-start
+    (λ c κs. search needs)
+    (λ c κs. search needs)
+    (λ c. search needs)
+    (λ c. search needs)
     part-give-end
-    give-requires
-    same-length
+    (λ c κs. search needs)
+    (λ c. search needs)
     returns)

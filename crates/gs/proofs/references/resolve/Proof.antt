@@ -18,21 +18,6 @@ use Rattle.gs.specs.declared.steps.Referred.the-variants.{Number, TooBig
 use Rattle.gs.proofs.references.resolve.Statement.{statement}
 use Rattle.gs.proofs.references.resolve.Tie as tie
 
-read-unsigned-requires : tie.Need-read-unsigned-requires
-read-unsigned-requires c κs = search needs
-
-enum-known-answer : tie.Need-enum-known-answer
-enum-known-answer c = search needs
-
-enum-told : tie.Need-enum-told
-enum-told c = search needs
-
-refusal-of-requires : tie.Need-refusal-of-requires
-refusal-of-requires c κs = search needs
-
-as-name-requires : tie.Need-as-name-requires
-as-name-requires c κs = search needs
-
 by-name : (name table : List ℕ) (answer : Reading) (x : ℕ) (y : _) (number : ℕ) (r : Referred)
     → answer ≡ reading name true no-limit → answer ≡ Refused x y → number ≡ readNumber answer
     → r ≡ cond (eqb number too-big) TooBig (matchedAs (matchAs table (soughtIn table name))) → r ≡ referredIn table name
@@ -44,9 +29,6 @@ by-name name table answer x y number r a e n h =
 returns : tie.Need-returns
 returns c =
     by-name _ _ _ _ _ _ _ (c .before .before .before .before .read-unsigned .ensures) (c .before .before .enum-told .given .1) (c .before .refusal-of .ensures) (c .as-name .ensures)
-
-cast-t8 : tie.Need-cast-t8
-cast-t8 c = search needs
 
 valued : (name table : List ℕ) (answer : Reading) (n : Valued) → answer ≡ reading name true no-limit → answer ≡ Value n
     → Number (n .value % 256) ≡ referredIn table name
@@ -60,11 +42,11 @@ pub resolve-spec : {M : Type 1} → statement M
 resolve-spec =
     tie.close
     (tie.spec
-    read-unsigned-requires
-    enum-known-answer
-    enum-told
-    refusal-of-requires
-    as-name-requires
+    (λ c κs. search needs)
+    (λ c. search needs)
+    (λ c. search needs)
+    (λ c κs. search needs)
+    (λ c κs. search needs)
     returns
-    cast-t8
+    (λ c. search needs)
     returns-2)

@@ -15,32 +15,11 @@ Inv-loop text start stop also at₀ at = Stretch also text start at
 abbrev μ-loop : tie.MeasureT-loop
 μ-loop text start stop also at₀ at = stop - at
 
-loop-holds : tie.Need-loop-holds Inv-loop μ-loop
-loop-holds c = search needs
-
-shared-slice-read-is-plain : tie.Need-shared-slice-read-is-plain Inv-loop μ-loop
-shared-slice-read-is-plain c = search needs
-
-is-plain-requires : tie.Need-is-plain-requires Inv-loop μ-loop
-is-plain-requires c κs = search needs
-
-returns : tie.Need-returns Inv-loop μ-loop
-returns c = search needs
-
-add-at : tie.Need-add-at Inv-loop μ-loop
-add-at c = search needs
-
-loop-less : tie.Need-loop-less Inv-loop μ-loop
-loop-less c = search needs
-
 loop-again : tie.Need-loop-again Inv-loop μ-loop
 loop-again c =
     let a = c .before .before .before .before .before .before .args in
     let l = c .before .before .before .before .loop in
     stretch-next (a .also) (a .text .now) (a .start) (l .at) _ (l .inv) (omega arith) (omega arith) (c .before .is-plain .ensures (not-false _ (c .if1 .left)))
-
-returns-2 : tie.Need-returns-2 Inv-loop μ-loop
-returns-2 c = search needs
 
 pub bytes-end-spec : {M : Type 1} → statement M
 bytes-end-spec =
@@ -48,11 +27,11 @@ bytes-end-spec =
     (tie.spec
     Inv-loop
     μ-loop
-    loop-holds
-    shared-slice-read-is-plain
-    is-plain-requires
-    returns
-    add-at
-    loop-less
+    (λ c. search needs)
+    (λ c. search needs)
+    (λ c κs. search needs)
+    (λ c. search needs)
+    (λ c. search needs)
+    (λ c. search needs)
     loop-again
-    returns-2)
+    (λ c. search needs))

@@ -7,26 +7,11 @@ use borrow.Author.Needs.{needs}
 use Rattle.gs.proofs.runs.plain_end.Statement.{statement}
 use Rattle.gs.proofs.runs.plain_end.Tie as tie
 
-also-ends-requires : tie.Need-also-ends-requires
-also-ends-requires c κs = search needs
-
-block-behind-requires : tie.Need-block-behind-requires
-block-behind-requires c κs = search needs
-
-bytes-end-requires : tie.Need-bytes-end-requires
-bytes-end-requires c κs = search needs
-
 returns : tie.Need-returns
 returns c =
     let s = c .before .before .before in
     let a = s .before .before .args in
     subst (λ also. Stretch also (a .text .now) (a .start) (c .before .bytes-end .result)) (s .also-ends .ensures) (c .before .bytes-end .ensures)
-
-blocks-end-requires : tie.Need-blocks-end-requires
-blocks-end-requires c κs = search needs
-
-bytes-end-requires-2 : tie.Need-bytes-end-requires-2
-bytes-end-requires-2 c κs = search needs
 
 returns-2 : tie.Need-returns-2
 returns-2 c =
@@ -40,10 +25,10 @@ pub plain-end-spec : {M : Type 1} → statement M
 plain-end-spec =
     tie.close
     (tie.spec
-    also-ends-requires
-    block-behind-requires
-    bytes-end-requires
+    (λ c κs. search needs)
+    (λ c κs. search needs)
+    (λ c κs. search needs)
     returns
-    blocks-end-requires
-    bytes-end-requires-2
+    (λ c κs. search needs)
+    (λ c κs. search needs)
     returns-2)

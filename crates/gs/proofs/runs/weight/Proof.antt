@@ -21,24 +21,6 @@ loop-holds c =
     let a = c .before .args in
     (omega arith, omega arith, λ none. stretch-none (a .also) (a .text .now) (a .at) _ (omega arith) (omega arith))
 
-add-marks : tie.Need-add-marks Inv-loop μ-loop
-add-marks c = search needs
-
-shared-slice-read-marks : tie.Need-shared-slice-read-marks Inv-loop μ-loop
-shared-slice-read-marks c = search needs
-
-marks-requires : tie.Need-marks-requires Inv-loop μ-loop
-marks-requires c κs = search needs
-
-add-sum : tie.Need-add-sum Inv-loop μ-loop
-add-sum c = search needs
-
-add-i : tie.Need-add-i Inv-loop μ-loop
-add-i c = search needs
-
-loop-less : tie.Need-loop-less Inv-loop μ-loop
-loop-less c = search needs
-
 loop-again : tie.Need-loop-again Inv-loop μ-loop
 loop-again c =
     let a = c .before .before .before .before .before .args in
@@ -63,11 +45,11 @@ weight-spec =
     Inv-loop
     μ-loop
     loop-holds
-    add-marks
-    shared-slice-read-marks
-    marks-requires
-    add-sum
-    add-i
-    loop-less
+    (λ c. search needs)
+    (λ c. search needs)
+    (λ c κs. search needs)
+    (λ c. search needs)
+    (λ c. search needs)
+    (λ c. search needs)
     loop-again
     returns)

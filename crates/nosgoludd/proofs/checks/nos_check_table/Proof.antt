@@ -7,23 +7,11 @@ use Rattle.nosgoludd.specs.Faces.{checkFace}
 use Rattle.nosgoludd.proofs.checks.nos_check_table.Statement.{statement}
 use Rattle.nosgoludd.proofs.checks.nos_check_table.Tie as tie
 
-check-table-requires : tie.Need-check-table-requires
-check-table-requires c κs = search needs
-
-enum-known-answer : tie.Need-enum-known-answer
-enum-known-answer c = search needs
-
 cast-t7 : tie.Need-cast-t7
 cast-t7 c =
     let at = c .before .before .before in
     let few = subst Bounded (sym (at .check-table .ensures) ∙ c .before .answer .given .1) (checked-bounded (at .before .before .args .table .now)) in
     record { fits = omega (arith, few .count) }
-
-enum-known-answer-2 : tie.Need-enum-known-answer-2
-enum-known-answer-2 c = search needs
-
-cast-t8 : tie.Need-cast-t8
-cast-t8 c = search needs
 
 returns : tie.Need-returns
 returns c = ap checkFace (sym (c .before .answer .given .1) ∙ c .before .before .before .check-table .ensures)
@@ -33,4 +21,5 @@ returns-2 c = ap checkFace (sym (c .before .answer2 .given .1) ∙ c .before .be
 
 pub nos-check-table-spec : {M : Type 1} → statement M
 nos-check-table-spec =
-    tie.close (tie.spec check-table-requires enum-known-answer cast-t7 enum-known-answer-2 cast-t8 returns returns-2)
+    tie.close (tie.spec (λ c κs. search needs) (λ c. search needs) cast-t7 (λ c. search needs) (λ c. search needs) returns
+    returns-2)

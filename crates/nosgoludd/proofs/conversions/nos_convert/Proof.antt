@@ -16,28 +16,10 @@ told c r known =
     let a = c .before .before .before .args in
     ap answerFace (ap convertedAnswer (sym known ∙ c .convert .ensures .0) ∙ converted-kept (a .call) (a .value) (length (a .buf .now)))
 
-convert-requires : tie.Need-convert-requires
-convert-requires c κs = search needs
-
-enum-known-answer : tie.Need-enum-known-answer
-enum-known-answer c = search needs
-
-enum-known-answer-2 : tie.Need-enum-known-answer-2
-enum-known-answer-2 c = search needs
-
-cast-t14 : tie.Need-cast-t14
-cast-t14 c = search needs
-
-same-length : tie.Need-same-length
-same-length c = search needs
-
 returns : tie.Need-returns
 returns c =
     let at = c .before .before .before .before .before in
     (told at _ (c .before .answer .given .1), at .convert .ensures .1)
-
-same-length-2 : tie.Need-same-length-2
-same-length-2 c = search needs
 
 returns-2 : tie.Need-returns-2
 returns-2 c =
@@ -48,11 +30,11 @@ pub nos-convert-spec : {M : Type 1} → statement M
 nos-convert-spec =
     tie.close
     (tie.spec
-    convert-requires
-    enum-known-answer
-    enum-known-answer-2
-    cast-t14
-    same-length
+    (λ c κs. search needs)
+    (λ c. search needs)
+    (λ c. search needs)
+    (λ c. search needs)
+    (λ c. search needs)
     returns
-    same-length-2
+    (λ c. search needs)
     returns-2)

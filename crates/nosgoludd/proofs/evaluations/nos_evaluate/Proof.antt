@@ -19,27 +19,6 @@ told : (pattern : ℕ) (end : TextPlace) (value : ℤ) (r : Evaluated) → value
     → _≡_ {A = NosValue} (record { number = 0; counted = 0; place = end .0; value = value }) (evaluationFace r)
 told pattern end value r v e = ap (λ v. record { number = 0; counted = 0; place = end .0; value = v }) v ∙ ap evaluationFace e
 
-evaluate-requires : tie.Need-evaluate-requires
-evaluate-requires c κs = search needs
-
-enum-known-answer : tie.Need-enum-known-answer
-enum-known-answer c = search needs
-
-signed-requires : tie.Need-signed-requires
-signed-requires c κs = search needs
-
-enum-known-answer-2 : tie.Need-enum-known-answer-2
-enum-known-answer-2 c = search needs
-
-cast-t13 : tie.Need-cast-t13
-cast-t13 c = search needs
-
-enum-known-answer-3 : tie.Need-enum-known-answer-3
-enum-known-answer-3 c = search needs
-
-cast-t14 : tie.Need-cast-t14
-cast-t14 c = search needs
-
 returns : tie.Need-returns
 returns c =
     told _ _ _ _ (toZ-ofZ w32 (c .signed .result) (record { sfits = c .signed .ok }) ∙ c .signed .ensures)
@@ -57,13 +36,13 @@ pub nos-evaluate-spec : {M : Type 1} → statement M
 nos-evaluate-spec =
     tie.close
     (tie.spec
-    evaluate-requires
-    enum-known-answer
-    signed-requires
-    enum-known-answer-2
-    cast-t13
-    enum-known-answer-3
-    cast-t14
+    (λ c κs. search needs)
+    (λ c. search needs)
+    (λ c κs. search needs)
+    (λ c. search needs)
+    (λ c. search needs)
+    (λ c. search needs)
+    (λ c. search needs)
     returns
     returns-2
     returns-3)

@@ -36,18 +36,6 @@ told : (v : Variable) (kind : ℕ) (f : Found) → kind ≡ foundFace (At v) .ki
 told v kind f k e =
     ap (λ k. record { number = 0; counted = 1; place = v .at .0; kind = k; length = v .length; start = v .start }) k ∙ ap foundFace e
 
-look-up-requires : tie.Need-look-up-requires
-look-up-requires c κs = search needs
-
-enum-known-answer : tie.Need-enum-known-answer
-enum-known-answer c = search needs
-
-number-requires : tie.Need-number-requires
-number-requires c κs = search needs
-
-cast-t11 : tie.Need-cast-t11
-cast-t11 c = search needs
-
 cast-t12 : tie.Need-cast-t12
 cast-t12 c =
     let at = c .before .before .before .before .before .before in
@@ -56,18 +44,6 @@ cast-t12 c =
     subst (λ f. foundLength f ≤ 255) (sym (at .look-up .ensures) ∙ c .before .before .before .before .answer .given .1)
     (value-short (a .table .now) (a .name .now) (λ k. omega (arith, at .before .shared-slice-known2 .given k))) in
     record { fits = omega (arith, short) }
-
-enum-told : tie.Need-enum-told
-enum-told c = search needs
-
-cast-t13 : tie.Need-cast-t13
-cast-t13 c = search needs
-
-enum-known-answer-2 : tie.Need-enum-known-answer-2
-enum-known-answer-2 c = search needs
-
-cast-t14 : tie.Need-cast-t14
-cast-t14 c = search needs
 
 returns : tie.Need-returns
 returns c =
@@ -84,15 +60,15 @@ pub nos-look-up-spec : {M : Type 1} → statement M
 nos-look-up-spec =
     tie.close
     (tie.spec
-    look-up-requires
-    enum-known-answer
-    number-requires
-    cast-t11
+    (λ c κs. search needs)
+    (λ c. search needs)
+    (λ c κs. search needs)
+    (λ c. search needs)
     cast-t12
-    enum-told
-    cast-t13
-    enum-known-answer-2
-    cast-t14
+    (λ c. search needs)
+    (λ c. search needs)
+    (λ c. search needs)
+    (λ c. search needs)
     returns
     returns-2
     returns-3)

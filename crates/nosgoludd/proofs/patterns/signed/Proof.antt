@@ -31,17 +31,8 @@ upper p high =
     toZ-ofZ w32 _ (fits (4294967295 - p) (omega arith)) ∙ turned (4294967295 - p) (omega arith)
     ∙ by-sign (λ z. negsuc (4294967295 - p) ≡ z) p (λ low. absurd (omega arith)) (λ _. refl)
 
-cast-result : tie.Need-cast-result
-cast-result c = search needs
-
 returns : tie.Need-returns
 returns c = lower (c .before .args .pattern) (omega (arith, c .if1 .taken))
-
-sub-result : tie.Need-sub-result
-sub-result c = search needs
-
-cast-result-2 : tie.Need-cast-result-2
-cast-result-2 c = search needs
 
 sub-result-2 : tie.Need-sub-result-2
 sub-result-2 c = fits (4294967295 - c .before .args .pattern) (omega (arith, c .if1 .left))
@@ -50,4 +41,4 @@ returns-2 : tie.Need-returns-2
 returns-2 c = upper (c .before .args .pattern) (omega (arith, c .if1 .left))
 
 pub signed-spec : {M : Type 1} → statement M
-signed-spec = tie.close (tie.spec cast-result returns sub-result cast-result-2 sub-result-2 returns-2)
+signed-spec = tie.close (tie.spec (λ c. search needs) returns (λ c. search needs) (λ c. search needs) sub-result-2 returns-2)

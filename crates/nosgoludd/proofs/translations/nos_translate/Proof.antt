@@ -29,45 +29,15 @@ left c =
     let a = c .before .before .before .before .before .before .args in
     carried (λ f. outAfter (a .text .now) (a .table .now) f (a .allowance) (a .out .now)) (c .translate .ensures .1) (c .before .before .of .ensures)
 
-of-requires : tie.Need-of-requires
-of-requires c κs = search needs
-
-translate-requires : tie.Need-translate-requires
-translate-requires c κs = search needs
-
-enum-known-answer : tie.Need-enum-known-answer
-enum-known-answer c = search needs
-
-enum-known-answer-2 : tie.Need-enum-known-answer-2
-enum-known-answer-2 c = search needs
-
-cast-t21 : tie.Need-cast-t21
-cast-t21 c = search needs
-
-enum-known-answer-3 : tie.Need-enum-known-answer-3
-enum-known-answer-3 c = search needs
-
-cast-t22 : tie.Need-cast-t22
-cast-t22 c = search needs
-
-same-length : tie.Need-same-length
-same-length c = search needs
-
 returns : tie.Need-returns
 returns c =
     let at = c .before .before .before .before .before in
     (told at _ (c .before .answer .given .1), left at)
 
-same-length-2 : tie.Need-same-length-2
-same-length-2 c = search needs
-
 returns-2 : tie.Need-returns-2
 returns-2 c =
     let at = c .before .before .before .before .before in
     (told at _ (c .before .answer2 .given .1), left at)
-
-same-length-3 : tie.Need-same-length-3
-same-length-3 c = search needs
 
 returns-3 : tie.Need-returns-3
 returns-3 c =
@@ -78,16 +48,16 @@ pub nos-translate-spec : {M : Type 1} → statement M
 nos-translate-spec =
     tie.close
     (tie.spec
-    of-requires
-    translate-requires
-    enum-known-answer
-    enum-known-answer-2
-    cast-t21
-    enum-known-answer-3
-    cast-t22
-    same-length
+    (λ c κs. search needs)
+    (λ c κs. search needs)
+    (λ c. search needs)
+    (λ c. search needs)
+    (λ c. search needs)
+    (λ c. search needs)
+    (λ c. search needs)
+    (λ c. search needs)
     returns
-    same-length-2
+    (λ c. search needs)
     returns-2
-    same-length-3
+    (λ c. search needs)
     returns-3)

@@ -6,15 +6,9 @@ use Rattle.numbers.specs.Calls.{described, ranged}
 use Rattle.numbers.proofs.calls.family_of.Statement.{statement}
 use Rattle.numbers.proofs.calls.family_of.Tie as tie
 
-without-x-requires : tie.Need-without-x-requires
-without-x-requires c κs = search needs
-
 returns : tie.Need-returns
 unfolding described
 returns c = same _ _ _ _ (sym (c .before .without-x .ensures) ∙ c .if1 .taken) refl
-
-in-range-requires : tie.Need-in-range-requires
-in-range-requires c κs = search needs
 
 returns-2 : tie.Need-returns-2
 unfolding described
@@ -23,4 +17,4 @@ returns-2 c =
     other _ _ _ _ (λ e. c .before .if1 .left (plain ∙ e)) (c .in-range .ensures ∙ ap ranged plain)
 
 pub family-of-spec : {M : Type 1} → statement M
-family-of-spec = tie.close (tie.spec without-x-requires returns in-range-requires returns-2)
+family-of-spec = tie.close (tie.spec (λ c κs. search needs) returns (λ c κs. search needs) returns-2)

@@ -5,9 +5,6 @@ use Rattle.paper.proofs.Choice.{same, other}
 use Rattle.numbers.proofs.calls.without_x.Statement.{statement}
 use Rattle.numbers.proofs.calls.without_x.Tie as tie
 
-sub-result : tie.Need-sub-result
-sub-result c = search needs
-
 returns : tie.Need-returns
 returns c = same _ _ _ _ (c .if1 .taken) refl
 
@@ -15,4 +12,4 @@ returns-2 : tie.Need-returns-2
 returns-2 c = other _ _ _ _ (c .if1 .left) refl
 
 pub without-x-spec : {M : Type 1} → statement M
-without-x-spec = tie.close (tie.spec sub-result returns returns-2)
+without-x-spec = tie.close (tie.spec (λ c. search needs) returns returns-2)

@@ -6,8 +6,5 @@ use Rattle.numbers.proofs.digits.gap_before.Tie as tie
 returns : tie.Need-returns
 returns c = rw (c .if1 .taken)
 
-returns-2 : tie.Need-returns-2
-returns-2 c = search needs
-
 pub gap-before-spec : {M : Type 1} → statement M
-gap-before-spec = tie.close (tie.spec returns returns-2)
+gap-before-spec = tie.close (tie.spec returns (λ c. search needs))

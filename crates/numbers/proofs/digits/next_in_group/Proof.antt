@@ -8,11 +8,8 @@ use Rattle.numbers.proofs.digits.next_in_group.Tie as tie
 returns : tie.Need-returns
 returns c = same _ _ _ _ (c .if1 .taken) refl
 
-add-result : tie.Need-add-result
-add-result c = search needs
-
 returns-2 : tie.Need-returns-2
 returns-2 c = other _ _ _ _ (c .if1 .left) refl
 
 pub next-in-group-spec : {M : Type 1} → statement M
-next-in-group-spec = tie.close (tie.spec returns add-result returns-2)
+next-in-group-spec = tie.close (tie.spec returns (λ c. search needs) returns-2)

@@ -94,14 +94,8 @@ next-in-group-requires c κs = omega (arith, c .before .before .before .before .
 sub-at : tie.Need-sub-at Inv-loop μ-loop
 sub-at c = omega (arith, has-room (c .before .before .before .before .before), c .before .before .before .put-gap .ensures)
 
-last-glyph-requires : tie.Need-last-glyph-requires Inv-loop μ-loop
-last-glyph-requires c κs = search needs
-
 slice-write-buf : tie.Need-slice-write-buf Inv-loop μ-loop
 slice-write-buf c = omega (arith, c .before .before .before .before .put-gap .kept, c .before .before .before .before .put-gap .ensures, as-long (c .before .before .before .before .before .before .before), has-room (c .before .before .before .before .before .before))
-
-shrink-requires : tie.Need-shrink-requires Inv-loop μ-loop
-shrink-requires c κs = search needs
 
 add-done : tie.Need-add-done Inv-loop μ-loop
 add-done c = omega (arith, c .before .before .before .before .before .before .before .loop-test .taken, c .before .before .before .before .before .before .before .before .before .before .fits)
@@ -149,9 +143,9 @@ put-digits-spec =
     put-gap-requires
     next-in-group-requires
     sub-at
-    last-glyph-requires
+    (λ c κs. search needs)
     slice-write-buf
-    shrink-requires
+    (λ c κs. search needs)
     add-done
     loop-less
     loop-again

@@ -13,9 +13,6 @@ use Rattle.numbers.specs.inner.Steps.{gapBefore}
 use Rattle.numbers.proofs.digits.put_gap.Statement.{statement}
 use Rattle.numbers.proofs.digits.put_gap.Tie as tie
 
-gap-before-requires : tie.Need-gap-before-requires
-gap-before-requires c κs = search needs
-
 none : (s : Bool) (g end : ℕ) (buf : List ℕ) → (s && eqb g 3) ≡ false
     → (end ≡ end - length (gapBefore s g)) × (buf ≡ sets buf end (gapBefore s g))
 none s g end buf h = rw h (omega arith, refl)
@@ -39,13 +36,10 @@ sub-start c = omega (arith, ap length (one c))
 slice-write-buf : tie.Need-slice-write-buf
 slice-write-buf c = omega (arith, ap length (one c))
 
-same-length : tie.Need-same-length
-same-length c = search needs
-
 returns-2 : tie.Need-returns-2
 returns-2 c =
     let a = c .before .before .before .args in
     space (a .spaced) (a .group) _ _ (one c)
 
 pub put-gap-spec : {M : Type 1} → statement M
-put-gap-spec = tie.close (tie.spec gap-before-requires returns sub-start slice-write-buf same-length returns-2)
+put-gap-spec = tie.close (tie.spec (λ c κs. search needs) returns sub-start slice-write-buf (λ c. search needs) returns-2)

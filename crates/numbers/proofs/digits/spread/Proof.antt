@@ -5,20 +5,11 @@ use borrow.Author.Needs.{needs}
 use Rattle.numbers.proofs.digits.spread.Statement.{statement}
 use Rattle.numbers.proofs.digits.spread.Tie as tie
 
-sub-result : tie.Need-sub-result
-sub-result c = search needs
-
-add-result : tie.Need-add-result
-add-result c = search needs
-
 returns : tie.Need-returns
 returns c = rw (c .before .if1 .taken) (refl, omega arith)
 
 returns-2 : tie.Need-returns-2
 returns-2 c = rw (c .before .if1 .taken) (omega arith, omega arith)
 
-returns-3 : tie.Need-returns-3
-returns-3 c = search needs
-
 pub spread-spec : {M : Type 1} → statement M
-spread-spec = tie.close (tie.spec sub-result add-result returns returns-2 returns-3)
+spread-spec = tie.close (tie.spec (λ c. search needs) (λ c. search needs) returns returns-2 (λ c. search needs))

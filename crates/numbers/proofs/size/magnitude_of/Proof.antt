@@ -6,20 +6,11 @@ use borrow.Author.Needs.{needs}
 use Rattle.numbers.proofs.size.magnitude_of.Statement.{statement}
 use Rattle.numbers.proofs.size.magnitude_of.Tie as tie
 
-wide-requires : tie.Need-wide-requires
-wide-requires c κs = search needs
-
-sub-result : tie.Need-sub-result
-sub-result c = search needs
-
 cast-result : tie.Need-cast-result
 cast-result c = omega (arith, c .before .before .pre .1 (c .before .if1 .taken))
 
 returns : tie.Need-returns
 returns c = rw (c .before .if1 .taken) (ap (λ used. c .before .before .args .span - used) (c .wide .ensures))
 
-returns-2 : tie.Need-returns-2
-returns-2 c = search needs
-
 pub magnitude-of-spec : {M : Type 1} → statement M
-magnitude-of-spec = tie.close (tie.spec wide-requires sub-result cast-result returns returns-2)
+magnitude-of-spec = tie.close (tie.spec (λ c κs. search needs) (λ c. search needs) cast-result returns (λ c. search needs))

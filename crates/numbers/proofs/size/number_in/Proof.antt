@@ -15,16 +15,10 @@ use Rattle.numbers.proofs.Bounds.{bits-range}
 use Rattle.numbers.proofs.size.number_in.Statement.{statement}
 use Rattle.numbers.proofs.size.number_in.Tie as tie
 
-span-requires : tie.Need-span-requires
-span-requires c κs = search needs
-
 low-part-requires : tie.Need-low-part-requires
 low-part-requires c κs =
     let width = c .before .args .width in
     (bits width, bits-range width .1, c .span .ensures)
-
-is-negative-requires : tie.Need-is-negative-requires
-is-negative-requires c κs = search needs
 
 magnitude-of-requires : tie.Need-magnitude-of-requires
 magnitude-of-requires c κs =
@@ -59,4 +53,4 @@ returns c =
 pub number-in-spec : {M : Type 1} → statement M
 number-in-spec =
     tie.close
-    (tie.spec span-requires low-part-requires is-negative-requires magnitude-of-requires returns)
+    (tie.spec (λ c κs. search needs) low-part-requires (λ c κs. search needs) magnitude-of-requires returns)

@@ -31,9 +31,6 @@ further c = inside (text (c .before)) (at (c .before)) (omega arith)
 loop-holds : tie.Need-loop-holds Inv-loop μ-loop
 loop-holds c = refl
 
-byte-requires : tie.Need-byte-requires Inv-loop μ-loop
-byte-requires c κs = search needs
-
 add-at : tie.Need-add-at Inv-loop μ-loop
 add-at c = omega (arith, further c)
 
@@ -49,4 +46,4 @@ returns c = omega (arith, space-none (text (c .before)) (at (c .before)) (λ e. 
 pub skip-spaces-spec : {M : Type 1} → statement M
 skip-spaces-spec =
     tie.close
-    (tie.spec Inv-loop μ-loop loop-holds byte-requires add-at loop-less loop-again returns)
+    (tie.spec Inv-loop μ-loop loop-holds (λ c κs. search needs) add-at loop-less loop-again returns)

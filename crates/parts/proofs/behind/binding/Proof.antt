@@ -34,12 +34,6 @@ module _ (level place next : ℕ) where
   no-operator Close o = refl
   no-operator Strange o = refl
 
-enum-known-token : tie.Need-enum-known-token
-enum-known-token c = search needs
-
-level-requires : tie.Need-level-requires
-level-requires c κs = search needs
-
 returns : tie.Need-returns
 returns c = bound _ _ _ _ _ (c .before .before .before .token .given .1) (sym (c .before .level .ensures) ∙ c .if1 .taken)
 
@@ -52,4 +46,4 @@ returns-3 c =
     no-operator (a .level) (a .lexed .place) (a .lexed .next) (a .lexed .token) (c .match .keys2)
 
 pub binding-spec : {M : Type 1} → statement M
-binding-spec = tie.close (tie.spec enum-known-token level-requires returns returns-2 returns-3)
+binding-spec = tie.close (tie.spec (λ c. search needs) (λ c κs. search needs) returns returns-2 returns-3)

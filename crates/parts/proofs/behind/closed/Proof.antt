@@ -17,27 +17,6 @@ by-token : (text : List ℕ) (next : ℕ) (p part : Part) (l : Lexed) (r : Part)
 by-token text next p part l r d e t h =
     h ∙ ap (λ (l : Lexeme). closedPartBy p (l .token) (l .place) (l .next)) t ∙ sym d ∙ ap (closedPart text) (sym e)
 
-enum-known-part : tie.Need-enum-known-part
-enum-known-part c = search needs
-
-token-at-requires : tie.Need-token-at-requires
-token-at-requires c κs = search needs
-
-closed-by-requires : tie.Need-closed-by-requires
-closed-by-requires c κs = search needs
-
-enum-known-part-2 : tie.Need-enum-known-part-2
-enum-known-part-2 c = search needs
-
-token-at-requires-2 : tie.Need-token-at-requires-2
-token-at-requires-2 c κs = search needs
-
-closed-by-requires-2 : tie.Need-closed-by-requires-2
-closed-by-requires-2 c κs = search needs
-
-enum-known-part-3 : tie.Need-enum-known-part-3
-enum-known-part-3 c = search needs
-
 returns : tie.Need-returns
 returns c = by-token _ _ _ _ _ _ refl (c .before .before .before .part .given .1) (c .before .token-at .ensures) (c .closed-by .ensures)
 
@@ -51,13 +30,13 @@ pub closed-spec : {M : Type 1} → statement M
 closed-spec =
     tie.close
     (tie.spec
-    enum-known-part
-    token-at-requires
-    closed-by-requires
-    enum-known-part-2
-    token-at-requires-2
-    closed-by-requires-2
-    enum-known-part-3
+    (λ c. search needs)
+    (λ c κs. search needs)
+    (λ c κs. search needs)
+    (λ c. search needs)
+    (λ c κs. search needs)
+    (λ c κs. search needs)
+    (λ c. search needs)
     returns
     returns-2
     returns-3)

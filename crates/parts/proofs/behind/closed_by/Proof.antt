@@ -26,15 +26,6 @@ module _ (part : Part) (place next : ℕ) where
   strange Close o = absurd (miss (0 ∷ 1 ∷ 2 ∷ 3 ∷ 4 ∷ 5 ∷ 7 ∷ []) 6 tt o)
   strange Strange o = refl
 
-enum-told : tie.Need-enum-told
-enum-told c = search needs
-
-moved-to-requires : tie.Need-moved-to-requires
-moved-to-requires c κs = search needs
-
-bad-requires : tie.Need-bad-requires
-bad-requires c κs = search needs
-
 returns : tie.Need-returns
 returns c =
     let a = c .before .before .before .args in
@@ -46,4 +37,4 @@ returns-2 c =
     c .bad .ensures ∙ strange (a .part) (a .lexed .place) (a .lexed .next) (a .lexed .token) (c .before .match .keys2)
 
 pub closed-by-spec : {M : Type 1} → statement M
-closed-by-spec = tie.close (tie.spec enum-told moved-to-requires bad-requires returns returns-2)
+closed-by-spec = tie.close (tie.spec (λ c. search needs) (λ c κs. search needs) (λ c κs. search needs) returns returns-2)

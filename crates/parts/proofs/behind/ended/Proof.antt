@@ -17,27 +17,6 @@ by-token : (text : List ℕ) (next : ℕ) (p part : Part) (l : Lexed) (r : Part)
 by-token text next p part l r d e t h =
     h ∙ ap (λ (l : Lexeme). endedPartBy p (l .token) (l .place)) t ∙ sym d ∙ ap (endedPart text) (sym e)
 
-enum-known-part : tie.Need-enum-known-part
-enum-known-part c = search needs
-
-token-at-requires : tie.Need-token-at-requires
-token-at-requires c κs = search needs
-
-ended-by-requires : tie.Need-ended-by-requires
-ended-by-requires c κs = search needs
-
-enum-known-part-2 : tie.Need-enum-known-part-2
-enum-known-part-2 c = search needs
-
-token-at-requires-2 : tie.Need-token-at-requires-2
-token-at-requires-2 c κs = search needs
-
-ended-by-requires-2 : tie.Need-ended-by-requires-2
-ended-by-requires-2 c κs = search needs
-
-enum-known-part-3 : tie.Need-enum-known-part-3
-enum-known-part-3 c = search needs
-
 returns : tie.Need-returns
 returns c = by-token _ _ _ _ _ _ refl (c .before .before .before .part .given .1) (c .before .token-at .ensures) (c .ended-by .ensures)
 
@@ -51,13 +30,13 @@ pub ended-spec : {M : Type 1} → statement M
 ended-spec =
     tie.close
     (tie.spec
-    enum-known-part
-    token-at-requires
-    ended-by-requires
-    enum-known-part-2
-    token-at-requires-2
-    ended-by-requires-2
-    enum-known-part-3
+    (λ c. search needs)
+    (λ c κs. search needs)
+    (λ c κs. search needs)
+    (λ c. search needs)
+    (λ c κs. search needs)
+    (λ c κs. search needs)
+    (λ c. search needs)
     returns
     returns-2
     returns-3)

@@ -16,47 +16,23 @@ by-token : (text : List ℕ) (level next : ℕ) (p part : Part) (l : Lexed) (k :
     → part ≡ p → lexemeOf l ≡ tokenAt text next → k ≡ linkBy level (l .token) (l .place) (l .next) → k ≡ linkBehind text level part
 by-token text level next p part l k d e t h = h ∙ ap (λ (l : Lexeme). linkBy level (l .token) (l .place) (l .next)) t ∙ sym d ∙ ap (linkBehind text level) (sym e)
 
-enum-known-part : tie.Need-enum-known-part
-enum-known-part c = search needs
-
-token-at-requires : tie.Need-token-at-requires
-token-at-requires c κs = search needs
-
-binding-requires : tie.Need-binding-requires
-binding-requires c κs = search needs
-
-enum-known-part-2 : tie.Need-enum-known-part-2
-enum-known-part-2 c = search needs
-
-token-at-requires-2 : tie.Need-token-at-requires-2
-token-at-requires-2 c κs = search needs
-
-binding-requires-2 : tie.Need-binding-requires-2
-binding-requires-2 c κs = search needs
-
-enum-told : tie.Need-enum-told
-enum-told c = search needs
-
 returns : tie.Need-returns
 returns c = by-token _ _ _ _ _ _ _ refl (c .before .before .before .part .given .1) (c .before .token-at .ensures) (c .binding .ensures)
 
 returns-2 : tie.Need-returns-2
 returns-2 c = by-token _ _ _ _ _ _ _ refl (c .before .before .before .part2 .given .1) (c .before .token-at2 .ensures) (c .binding2 .ensures)
 
-returns-3 : tie.Need-returns-3
-returns-3 c = search needs
-
 pub operator-behind-spec : {M : Type 1} → statement M
 operator-behind-spec =
     tie.close
     (tie.spec
-    enum-known-part
-    token-at-requires
-    binding-requires
-    enum-known-part-2
-    token-at-requires-2
-    binding-requires-2
-    enum-told
+    (λ c. search needs)
+    (λ c κs. search needs)
+    (λ c κs. search needs)
+    (λ c. search needs)
+    (λ c κs. search needs)
+    (λ c κs. search needs)
+    (λ c. search needs)
     returns
     returns-2
-    returns-3)
+    (λ c. search needs))

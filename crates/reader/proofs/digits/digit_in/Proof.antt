@@ -19,12 +19,6 @@ module _ {base c byte : ℕ} (same : byte ≡ c) where
   none : among 48 57 byte ≡ false → base ≤ 10 → DigitIn base (digit c) 36
   none other low = record { inside = λ h. absurd (omega arith); outside = λ _. omega (arith, above-decimal byte other, ap digit same) }
 
-wide-requires : tie.Need-wide-requires
-wide-requires c κs = search needs
-
-within-requires : tie.Need-within-requires
-within-requires c κs = search needs
-
 sub-result : tie.Need-sub-result
 sub-result c = omega (arith, among-true _ _ (c .before .before .wide .result) (sym (c .before .within .ensures) ∙ c .if1 .taken) .0)
 
@@ -46,8 +40,8 @@ pub digit-in-spec : {M : Type 1} → statement M
 digit-in-spec =
     tie.close
     (tie.spec
-    wide-requires
-    within-requires
+    (λ c κs. search needs)
+    (λ c κs. search needs)
     sub-result
     returns
     returns-2

@@ -17,14 +17,8 @@ abbrev μ-loop : tie.MeasureT-loop
 loop-holds : tie.Need-loop-holds Inv-loop μ-loop
 loop-holds c = record { same-end = refl }
 
-wide-requires : tie.Need-wide-requires Inv-loop μ-loop
-wide-requires c κs = search needs
-
 shared-slice-read-digit-in : tie.Need-shared-slice-read-digit-in Inv-loop μ-loop
 shared-slice-read-digit-in c = omega arith
-
-digit-in-requires : tie.Need-digit-in-requires Inv-loop μ-loop
-digit-in-requires c κs = search needs
 
 returns : tie.Need-returns Inv-loop μ-loop
 returns c =
@@ -52,9 +46,9 @@ digits-end-spec =
     Inv-loop
     μ-loop
     loop-holds
-    wide-requires
+    (λ c κs. search needs)
     shared-slice-read-digit-in
-    digit-in-requires
+    (λ c κs. search needs)
     returns
     add-at
     loop-less

@@ -6,17 +6,8 @@ use Rattle.reader.proofs.DigitBytes.{among-true, among-false, letter, n
 use Rattle.reader.proofs.digits.letter_of.Statement.{statement}
 use Rattle.reader.proofs.digits.letter_of.Tie as tie
 
-capital-requires : tie.Need-capital-requires
-capital-requires c κs = search needs
-
-within-requires : tie.Need-within-requires
-within-requires c κs = search needs
-
 sub-result : tie.Need-sub-result
 sub-result c = omega (arith, among-true _ _ (c .before .before .capital .result) (sym (c .before .within .ensures) ∙ c .if1 .taken) .0)
-
-add-result : tie.Need-add-result
-add-result c = search needs
 
 returns : tie.Need-returns
 returns c =
@@ -32,4 +23,4 @@ returns-2 c =
 
 pub letter-of-spec : {M : Type 1} → statement M
 letter-of-spec =
-    tie.close (tie.spec capital-requires within-requires sub-result add-result returns returns-2)
+    tie.close (tie.spec (λ c κs. search needs) (λ c κs. search needs) sub-result (λ c. search needs) returns returns-2)

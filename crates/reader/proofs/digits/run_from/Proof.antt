@@ -51,12 +51,6 @@ loop-holds c = record { small = omega arith; passed = record { same-end = refl }
 shared-slice-read-digit-in : tie.Need-shared-slice-read-digit-in Inv-loop μ-loop
 shared-slice-read-digit-in c = omega arith
 
-digit-in-requires : tie.Need-digit-in-requires Inv-loop μ-loop
-digit-in-requires c κs = search needs
-
-wide-requires : tie.Need-wide-requires Inv-loop μ-loop
-wide-requires c κs = search needs
-
 returns : tie.Need-returns Inv-loop μ-loop
 returns c =
     let t = c .before .before .before .before in
@@ -74,17 +68,8 @@ product c =
 mul-next : tie.Need-mul-next Inv-loop μ-loop
 mul-next c = omega (arith, product c)
 
-cast-next : tie.Need-cast-next Inv-loop μ-loop
-cast-next c = search needs
-
 add-next : tie.Need-add-next Inv-loop μ-loop
 add-next c = omega (arith, product c)
-
-add-digits-end : tie.Need-add-digits-end Inv-loop μ-loop
-add-digits-end c = search needs
-
-digits-end-requires : tie.Need-digits-end-requires Inv-loop μ-loop
-digits-end-requires c κs = search needs
 
 returns-2 : tie.Need-returns-2 Inv-loop μ-loop
 returns-2 c =
@@ -114,14 +99,14 @@ run-from-spec =
     μ-loop
     loop-holds
     shared-slice-read-digit-in
-    digit-in-requires
-    wide-requires
+    (λ c κs. search needs)
+    (λ c κs. search needs)
     returns
     mul-next
-    cast-next
+    (λ c. search needs)
     add-next
-    add-digits-end
-    digits-end-requires
+    (λ c. search needs)
+    (λ c κs. search needs)
     returns-2
     add-at
     loop-less

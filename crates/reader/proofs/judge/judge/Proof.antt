@@ -7,28 +7,16 @@ use Rattle.reader.specs.Reading.{judged}
 use Rattle.reader.proofs.judge.judge.Statement.{statement}
 use Rattle.reader.proofs.judge.judge.Tie as tie
 
-refused-requires : tie.Need-refused-requires
-refused-requires c κs = search needs
-
 returns : tie.Need-returns
 unfolding judged
 returns c =
     let a = c .before .before .before .args in
     rw (c .refused .ensures, eq-eqb (a .run .end) (a .first) (omega arith))
 
-refused-requires-2 : tie.Need-refused-requires-2
-refused-requires-2 c κs = search needs
-
 returns-2 : tie.Need-returns-2
 unfolding judged
 returns-2 c =
     rw (c .refused2 .ensures, ne-eqb _ _ (c .before .before .before .if1 .left), lt-ltb _ _ (c .before .if2 .taken))
-
-goes-on-requires : tie.Need-goes-on-requires
-goes-on-requires c κs = search needs
-
-refused-requires-3 : tie.Need-refused-requires-3
-refused-requires-3 c κs = search needs
 
 returns-3 : tie.Need-returns-3
 unfolding judged
@@ -40,12 +28,6 @@ returns-3 c =
       le-ltb _ _ (on .before .if2 .left),
       sym (on .goes-on .ensures) ∙ c .before .if3 .taken,
     )
-
-cast-value : tie.Need-cast-value
-cast-value c = search needs
-
-refused-requires-4 : tie.Need-refused-requires-4
-refused-requires-4 c κs = search needs
 
 returns-4 : tie.Need-returns-4
 unfolding judged
@@ -74,14 +56,14 @@ pub judge-spec : {M : Type 1} → statement M
 judge-spec =
     tie.close
     (tie.spec
-    refused-requires
+    (λ c κs. search needs)
     returns
-    refused-requires-2
+    (λ c κs. search needs)
     returns-2
-    goes-on-requires
-    refused-requires-3
+    (λ c κs. search needs)
+    (λ c κs. search needs)
     returns-3
-    cast-value
-    refused-requires-4
+    (λ c. search needs)
+    (λ c κs. search needs)
     returns-4
     returns-5)

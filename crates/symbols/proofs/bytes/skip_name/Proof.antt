@@ -36,12 +36,6 @@ further c = name-inside (text (c .before)) (at (c .before)) (judged (c .before) 
 loop-holds : tie.Need-loop-holds Inv-loop μ-loop
 loop-holds c = refl
 
-byte-requires : tie.Need-byte-requires Inv-loop μ-loop
-byte-requires c κs = search needs
-
-is-name-byte-requires : tie.Need-is-name-byte-requires Inv-loop μ-loop
-is-name-byte-requires c κs = search needs
-
 add-at : tie.Need-add-at Inv-loop μ-loop
 add-at c = omega (arith, further c)
 
@@ -61,8 +55,8 @@ skip-name-spec =
     Inv-loop
     μ-loop
     loop-holds
-    byte-requires
-    is-name-byte-requires
+    (λ c κs. search needs)
+    (λ c κs. search needs)
     add-at
     loop-less
     loop-again

@@ -10,9 +10,6 @@ use Rattle.symbols.specs.Symbols.{code}
 use Rattle.symbols.proofs.codes.code.Statement.{statement}
 use Rattle.symbols.proofs.codes.code.Tie as tie
 
-among-requires : tie.Need-among-requires
-among-requires c κs = search needs
-
 sub-result : tie.Need-sub-result
 sub-result c =
     let x = c .before .before .args .c in
@@ -21,9 +18,6 @@ sub-result c =
 returns : tie.Need-returns
 unfolding code
 returns c = hit _ _ _ (sym (c .before .among .ensures) ∙ c .if1 .taken) refl
-
-among-requires-2 : tie.Need-among-requires-2
-among-requires-2 c κs = search needs
 
 sub-result-2 : tie.Need-sub-result-2
 sub-result-2 c =
@@ -36,9 +30,6 @@ returns-2 c =
     let a = c .before .before in
     skip _ _ _ (sym (a .before .among .ensures) ∙ a .if1 .left) (hit _ _ _ (sym (c .before .among2 .ensures) ∙ c .if2 .taken) refl)
 
-punctuation-requires : tie.Need-punctuation-requires
-punctuation-requires c κs = search needs
-
 returns-3 : tie.Need-returns-3
 unfolding code
 returns-3 c =
@@ -49,11 +40,11 @@ pub code-spec : {M : Type 1} → statement M
 code-spec =
     tie.close
     (tie.spec
-    among-requires
+    (λ c κs. search needs)
     sub-result
     returns
-    among-requires-2
+    (λ c κs. search needs)
     sub-result-2
     returns-2
-    punctuation-requires
+    (λ c κs. search needs)
     returns-3)

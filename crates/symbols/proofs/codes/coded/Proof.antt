@@ -6,19 +6,13 @@ use Rattle.symbols.specs.Symbols.{coded}
 use Rattle.symbols.proofs.codes.coded.Statement.{statement}
 use Rattle.symbols.proofs.codes.coded.Tie as tie
 
-cast-t5 : tie.Need-cast-t5
-cast-t5 c = search needs
-
 returns : tie.Need-returns
 unfolding coded
 returns c = below _ _ _ _ (c .if1 .taken) refl
-
-faulty-requires : tie.Need-faulty-requires
-faulty-requires c κs = search needs
 
 returns-2 : tie.Need-returns-2
 unfolding coded
 returns-2 c = not-below _ _ _ _ (c .before .if1 .left) (c .faulty .ensures)
 
 pub coded-spec : {M : Type 1} → statement M
-coded-spec = tie.close (tie.spec cast-t5 returns faulty-requires returns-2)
+coded-spec = tie.close (tie.spec (λ c. search needs) returns (λ c κs. search needs) returns-2)

@@ -5,12 +5,6 @@ use borrow.Author.Tests.{ne-eqb}
 use Rattle.symbols.proofs.codes.is_bare.Statement.{statement}
 use Rattle.symbols.proofs.codes.is_bare.Tie as tie
 
-is-end-requires : tie.Need-is-end-requires
-is-end-requires c κs = search needs
-
-is-ending-space-requires : tie.Need-is-ending-space-requires
-is-ending-space-requires c κs = search needs
-
 returns : tie.Need-returns
 returns c = rw (← c .before .is-end .ensures, c .if1 .taken)
 
@@ -30,4 +24,4 @@ returns-4 c =
 pub is-bare-spec : {M : Type 1} → statement M
 is-bare-spec =
     tie.close
-    (tie.spec is-end-requires is-ending-space-requires returns returns-2 returns-3 returns-4)
+    (tie.spec (λ c κs. search needs) (λ c κs. search needs) returns returns-2 returns-3 returns-4)

@@ -5,9 +5,6 @@ use Rattle.paper.proofs.Choice.{below, not-below}
 use Rattle.symbols.proofs.codes.topped.Statement.{statement}
 use Rattle.symbols.proofs.codes.topped.Tie as tie
 
-add-result : tie.Need-add-result
-add-result c = search needs
-
 returns : tie.Need-returns
 returns c = below _ _ _ _ (c .if1 .taken) refl
 
@@ -15,4 +12,4 @@ returns-2 : tie.Need-returns-2
 returns-2 c = not-below _ _ _ _ (c .if1 .left) refl
 
 pub topped-spec : {M : Type 1} → statement M
-topped-spec = tie.close (tie.spec add-result returns returns-2)
+topped-spec = tie.close (tie.spec (λ c. search needs) returns returns-2)

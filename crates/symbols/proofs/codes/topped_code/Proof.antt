@@ -7,24 +7,6 @@ use Rattle.symbols.proofs.Laws.{uncoded}
 use Rattle.symbols.proofs.codes.topped_code.Statement.{statement}
 use Rattle.symbols.proofs.codes.topped_code.Tie as tie
 
-add-byte : tie.Need-add-byte
-add-byte c = search needs
-
-byte-requires : tie.Need-byte-requires
-byte-requires c κs = search needs
-
-code-requires : tie.Need-code-requires
-code-requires c κs = search needs
-
-cast-topped : tie.Need-cast-topped
-cast-topped c = search needs
-
-topped-requires : tie.Need-topped-requires
-topped-requires c κs = search needs
-
-add-t9 : tie.Need-add-t9
-add-t9 c = search needs
-
 returns : tie.Need-returns
 unfolding toppedCode
 returns c =
@@ -38,9 +20,6 @@ returns c =
       lt-leb _ _ (c .before .if1 .taken),
     )
 
-faulty-requires : tie.Need-faulty-requires
-faulty-requires c κs = search needs
-
 returns-2 : tie.Need-returns-2
 unfolding toppedCode
 returns-2 c =
@@ -51,12 +30,12 @@ pub topped-code-spec : {M : Type 1} → statement M
 topped-code-spec =
     tie.close
     (tie.spec
-    add-byte
-    byte-requires
-    code-requires
-    cast-topped
-    topped-requires
-    add-t9
+    (λ c. search needs)
+    (λ c κs. search needs)
+    (λ c κs. search needs)
+    (λ c. search needs)
+    (λ c κs. search needs)
+    (λ c. search needs)
     returns
-    faulty-requires
+    (λ c κs. search needs)
     returns-2)

@@ -44,15 +44,6 @@ module _ (c : tie.After-is-mark) where
   marked : {b : Bool} → c .is-mark .result ≡ b → (eqb (getD text start 0) 34 && not (quotePlain flags)) ≡ b
   marked e = rw (← c .before .byte .ensures, ← c .is-mark .ensures) e
 
-skip-spaces-requires : tie.Need-skip-spaces-requires
-skip-spaces-requires c κs = search needs
-
-byte-requires : tie.Need-byte-requires
-byte-requires c κs = search needs
-
-is-mark-requires : tie.Need-is-mark-requires
-is-mark-requires c κs = search needs
-
 add-t6 : tie.Need-add-t6
 add-t6 c = omega (arith, begins (c .before), spaces-within (text (c .before)))
 
@@ -77,4 +68,4 @@ returns-2 c =
 pub open-spec : {M : Type 1} → statement M
 open-spec =
     tie.close
-    (tie.spec skip-spaces-requires byte-requires is-mark-requires add-t6 returns returns-2)
+    (tie.spec (λ c κs. search needs) (λ c κs. search needs) (λ c κs. search needs) add-t6 returns returns-2)

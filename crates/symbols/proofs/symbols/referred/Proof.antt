@@ -20,21 +20,9 @@ module _ (c : tie.After-skip-name) where
   abbrev run : ℕ
   run = nameRun (drop (c .before .before .args .at + 1) text)
 
-add-start : tie.Need-add-start
-add-start c = search needs
-
-skip-name-requires : tie.Need-skip-name-requires
-skip-name-requires c κs = search needs
-
-faulty-requires : tie.Need-faulty-requires
-faulty-requires c κs = search needs
-
 returns : tie.Need-returns
 unfolding referred
 returns c = rw (c .faulty .ensures, le-ltb 0 (run (c .before .before)) (omega arith))
-
-byte-requires : tie.Need-byte-requires
-byte-requires c κs = search needs
 
 add-t8 : tie.Need-add-t8
 add-t8 c =
@@ -54,9 +42,6 @@ returns-2 c =
       eq-eqb _ _ (c .if2 .taken),
     )
 
-faulty-requires-2 : tie.Need-faulty-requires-2
-faulty-requires-2 c κs = search needs
-
 returns-3 : tie.Need-returns-3
 unfolding referred
 returns-3 c =
@@ -73,12 +58,12 @@ pub referred-spec : {M : Type 1} → statement M
 referred-spec =
     tie.close
     (tie.spec
-    add-start
-    skip-name-requires
-    faulty-requires
+    (λ c. search needs)
+    (λ c κs. search needs)
+    (λ c κs. search needs)
     returns
-    byte-requires
+    (λ c κs. search needs)
     add-t8
     returns-2
-    faulty-requires-2
+    (λ c κs. search needs)
     returns-3)

@@ -71,12 +71,6 @@ started c =
       ← c .is-mark .ensures,
     )
 
-byte-requires : tie.Need-byte-requires
-byte-requires c κs = search needs
-
-is-unmarked-requires : tie.Need-is-unmarked-requires
-is-unmarked-requires c κs = search needs
-
 add-t7 : tie.Need-add-t7
 add-t7 c = omega (arith, unmarked-inside (c .before) (c .if1 .taken))
 
@@ -84,19 +78,10 @@ returns : tie.Need-returns
 returns c =
     rw (c .before .before .byte .ensures) (sym (unmarked-byte _ _ _ _ (unmarked-here (c .before) (c .if1 .taken))))
 
-is-end-requires : tie.Need-is-end-requires
-is-end-requires c κs = search needs
-
-at-end-requires : tie.Need-at-end-requires
-at-end-requires c κs = search needs
-
 returns-2 : tie.Need-returns-2
 returns-2 c =
     let end = c .before .before in
     rw (c .at-end .ensures, symbol-tested, ← end .before .before .before .byte .ensures, ← end .is-end .ensures, c .before .if2 .taken)
-
-is-ending-space-requires : tie.Need-is-ending-space-requires
-is-ending-space-requires c κs = search needs
 
 returns-3 : tie.Need-returns-3
 returns-3 c =
@@ -109,9 +94,6 @@ returns-3 c =
       ← c .before .is-ending-space .ensures,
       c .if3 .taken,
     )
-
-is-mark-requires : tie.Need-is-mark-requires
-is-mark-requires c κs = search needs
 
 barred-requires : tie.Need-barred-requires
 barred-requires c κs = omega (arith, started-inside (c .before))
@@ -138,16 +120,16 @@ pub symbol-at-spec : {M : Type 1} → statement M
 symbol-at-spec =
     tie.close
     (tie.spec
-    byte-requires
-    is-unmarked-requires
+    (λ c κs. search needs)
+    (λ c κs. search needs)
     add-t7
     returns
-    is-end-requires
-    at-end-requires
+    (λ c κs. search needs)
+    (λ c κs. search needs)
     returns-2
-    is-ending-space-requires
+    (λ c κs. search needs)
     returns-3
-    is-mark-requires
+    (λ c κs. search needs)
     barred-requires
     returns-4
     referred-requires

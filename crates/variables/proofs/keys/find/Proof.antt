@@ -37,9 +37,6 @@ module _ (c : tie.After-is-named Inv-loop μ-loop) where
       ap (λ k. eqb (line % 65536) k && sameName (nameAt (start .args .table .now) (line / 65536)) (start .args .name .now)) (sym (head .before .key-of .ensures .0))
       ∙ sym (c .is-named .ensures)
 
-key-of-requires : tie.Need-key-of-requires Inv-loop μ-loop
-key-of-requires c κs = search needs
-
 loop-holds : tie.Need-loop-holds Inv-loop μ-loop
 loop-holds c = refl
 
@@ -48,12 +45,6 @@ mul-line c = omega arith
 
 shared-slice-read-line : tie.Need-shared-slice-read-line Inv-loop μ-loop
 shared-slice-read-line c = omega arith
-
-is-named-requires : tie.Need-is-named-requires Inv-loop μ-loop
-is-named-requires c κs = search needs
-
-place-in-requires : tie.Need-place-in-requires Inv-loop μ-loop
-place-in-requires c κs = search needs
 
 variable-at-requires : tie.Need-variable-at-requires Inv-loop μ-loop
 variable-at-requires c κs = omega arith
@@ -88,12 +79,12 @@ find-spec =
     (tie.spec
     Inv-loop
     μ-loop
-    key-of-requires
+    (λ c κs. search needs)
     loop-holds
     mul-line
     shared-slice-read-line
-    is-named-requires
-    place-in-requires
+    (λ c κs. search needs)
+    (λ c κs. search needs)
     variable-at-requires
     returns
     add-at

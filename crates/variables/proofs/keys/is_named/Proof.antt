@@ -6,15 +6,6 @@ use Rattle.variables.specs.Records.{nameAt, sameName}
 use Rattle.variables.proofs.keys.is_named.Statement.{statement}
 use Rattle.variables.proofs.keys.is_named.Tie as tie
 
-place-in-requires : tie.Need-place-in-requires
-place-in-requires c κs = search needs
-
-name-at-requires : tie.Need-name-at-requires
-name-at-requires c κs = search needs
-
-same-name-requires : tie.Need-same-name-requires
-same-name-requires c κs = search needs
-
 returns : tie.Need-returns
 returns c =
     let p = c .before in
@@ -28,4 +19,4 @@ returns-2 c = rw (ne-eqb _ _ (c .if1 .left))
 
 pub is-named-spec : {M : Type 1} → statement M
 is-named-spec =
-    tie.close (tie.spec place-in-requires name-at-requires same-name-requires returns returns-2)
+    tie.close (tie.spec (λ c κs. search needs) (λ c κs. search needs) (λ c κs. search needs) returns returns-2)

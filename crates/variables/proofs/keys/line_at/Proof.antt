@@ -7,25 +7,11 @@ use Rattle.variables.specs.inner.Keys.{keyOf}
 use Rattle.variables.proofs.keys.line_at.Statement.{statement}
 use Rattle.variables.proofs.keys.line_at.Tie as tie
 
-name-at-requires : tie.Need-name-at-requires
-name-at-requires c κs = search needs
-
-key-of-requires : tie.Need-key-of-requires
-key-of-requires c κs = search needs
-
-cast-result : tie.Need-cast-result
-cast-result c = search needs
-
-mul-result : tie.Need-mul-result
-mul-result c = search needs
-
-add-result : tie.Need-add-result
-add-result c = search needs
-
 returns : tie.Need-returns
 unfolding entryAt
 returns c = ap (λ k. 65536 * c .before .before .before .args .place + k) (c .key-of .ensures .0 ∙ ap keyOf (c .before .name-at .ensures))
 
 pub line-at-spec : {M : Type 1} → statement M
 line-at-spec =
-    tie.close (tie.spec name-at-requires key-of-requires cast-result mul-result add-result returns)
+    tie.close (tie.spec (λ c κs. search needs) (λ c κs. search needs) (λ c. search needs) (λ c. search needs) (λ c. search needs)
+    returns)

@@ -31,9 +31,6 @@ loop-holds c = refl
 shared-slice-read-is-name-byte : tie.Need-shared-slice-read-is-name-byte Inv-loop μ-loop
 shared-slice-read-is-name-byte c = omega arith
 
-is-name-byte-requires : tie.Need-is-name-byte-requires Inv-loop μ-loop
-is-name-byte-requires c κs = search needs
-
 add-at : tie.Need-add-at Inv-loop μ-loop
 add-at c = omega arith
 
@@ -61,7 +58,7 @@ all-name-bytes-spec =
     μ-loop
     loop-holds
     shared-slice-read-is-name-byte
-    is-name-byte-requires
+    (λ c κs. search needs)
     add-at
     loop-less
     loop-again

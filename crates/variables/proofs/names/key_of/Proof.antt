@@ -25,12 +25,6 @@ mul-key c = omega arith
 shared-slice-read-small : tie.Need-shared-slice-read-small Inv-loop μ-loop
 shared-slice-read-small c = omega arith
 
-small-requires : tie.Need-small-requires Inv-loop μ-loop
-small-requires c κs = search needs
-
-cast-key : tie.Need-cast-key Inv-loop μ-loop
-cast-key c = search needs
-
 add-key : tie.Need-add-key Inv-loop μ-loop
 add-key c = omega arith
 
@@ -64,8 +58,8 @@ key-of-spec =
     loop-holds
     mul-key
     shared-slice-read-small
-    small-requires
-    cast-key
+    (λ c κs. search needs)
+    (λ c. search needs)
     add-key
     add-at
     loop-less

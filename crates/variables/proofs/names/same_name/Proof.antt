@@ -49,9 +49,6 @@ module _ (c : tie.At-loop Inv-loop μ-loop) where
       (known && eqb (length a) (length b)) ≡ sameName a b
   done h e = ended a b (c .loop .at) (c .loop .differing) (c .loop .inv .3) (omega arith) e
 
-shorter-requires : tie.Need-shorter-requires Inv-loop μ-loop
-shorter-requires c κs = search needs
-
 loop-holds : tie.Need-loop-holds Inv-loop μ-loop
 loop-holds c = (c .shorter .ensures, omega arith, omega arith, refl)
 
@@ -60,9 +57,6 @@ shared-slice-read-unlike c = omega arith
 
 shared-slice-read-unlike-2 : tie.Need-shared-slice-read-unlike-2 Inv-loop μ-loop
 shared-slice-read-unlike-2 c = omega arith
-
-unlike-requires : tie.Need-unlike-requires Inv-loop μ-loop
-unlike-requires c κs = search needs
 
 add-differing : tie.Need-add-differing Inv-loop μ-loop
 add-differing c = omega arith
@@ -91,11 +85,11 @@ same-name-spec =
     (tie.spec
     Inv-loop
     μ-loop
-    shorter-requires
+    (λ c κs. search needs)
     loop-holds
     shared-slice-read-unlike
     shared-slice-read-unlike-2
-    unlike-requires
+    (λ c κs. search needs)
     add-differing
     add-at
     loop-less

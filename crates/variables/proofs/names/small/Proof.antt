@@ -13,12 +13,9 @@ returns-2 : tie.Need-returns-2
 unfolding small
 returns-2 c = rw (le-leb _ _ (c .before .if1 .left), lt-leb _ _ (c .if2 .taken))
 
-add-result : tie.Need-add-result
-add-result c = search needs
-
 returns-3 : tie.Need-returns-3
 unfolding small
 returns-3 c = rw (le-leb _ _ (c .before .if1 .left), le-leb _ _ (c .if2 .left))
 
 pub small-spec : {M : Type 1} → statement M
-small-spec = tie.close (tie.spec returns returns-2 add-result returns-3)
+small-spec = tie.close (tie.spec returns returns-2 (λ c. search needs) returns-3)

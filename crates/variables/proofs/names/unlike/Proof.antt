@@ -6,12 +6,6 @@ use Rattle.paper.proofs.Choice.{same, other}
 use Rattle.variables.proofs.names.unlike.Statement.{statement}
 use Rattle.variables.proofs.names.unlike.Tie as tie
 
-small-requires : tie.Need-small-requires
-small-requires c κs = search needs
-
-small-requires-2 : tie.Need-small-requires-2
-small-requires-2 c κs = search needs
-
 returns : tie.Need-returns
 returns c =
     let k = c .before in
@@ -23,4 +17,4 @@ returns-2 c =
     (other _ _ _ _ (λ e. c .if1 .left (k .before .small .ensures ∙ e ∙ sym (k .small2 .ensures))) refl, omega arith)
 
 pub unlike-spec : {M : Type 1} → statement M
-unlike-spec = tie.close (tie.spec small-requires small-requires-2 returns returns-2)
+unlike-spec = tie.close (tie.spec (λ c κs. search needs) (λ c κs. search needs) returns returns-2)

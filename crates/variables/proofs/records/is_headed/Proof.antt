@@ -5,30 +5,15 @@ use Rattle.variables.specs.Records.{headed}
 use Rattle.variables.proofs.records.is_headed.Statement.{statement}
 use Rattle.variables.proofs.records.is_headed.Tie as tie
 
-byte-requires : tie.Need-byte-requires
-byte-requires c κs = search needs
-
 returns : tie.Need-returns
 unfolding headed
 returns c = rw (← c .before .byte .ensures, ne-eqb _ _ (c .if1 .taken))
-
-add-byte : tie.Need-add-byte
-add-byte c = search needs
-
-byte-requires-2 : tie.Need-byte-requires-2
-byte-requires-2 c κs = search needs
 
 returns-2 : tie.Need-returns-2
 unfolding headed
 returns-2 c =
     let b = c .before .before in
     rw (← b .before .byte .ensures, eq-eqb _ _ (b .if1 .left), ← c .before .byte2 .ensures, ne-eqb _ _ (c .if2 .taken))
-
-add-byte-2 : tie.Need-add-byte-2
-add-byte-2 c = search needs
-
-byte-requires-3 : tie.Need-byte-requires-3
-byte-requires-3 c κs = search needs
 
 returns-3 : tie.Need-returns-3
 unfolding headed
@@ -46,11 +31,11 @@ pub is-headed-spec : {M : Type 1} → statement M
 is-headed-spec =
     tie.close
     (tie.spec
-    byte-requires
+    (λ c κs. search needs)
     returns
-    add-byte
-    byte-requires-2
+    (λ c. search needs)
+    (λ c κs. search needs)
     returns-2
-    add-byte-2
-    byte-requires-3
+    (λ c. search needs)
+    (λ c κs. search needs)
     returns-3)

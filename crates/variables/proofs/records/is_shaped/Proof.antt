@@ -4,18 +4,6 @@ use borrow.Author.Needs.{needs}
 use Rattle.variables.proofs.records.is_shaped.Statement.{statement}
 use Rattle.variables.proofs.records.is_shaped.Tie as tie
 
-is-headed-requires : tie.Need-is-headed-requires
-is-headed-requires c κs = search needs
-
-is-sized-requires : tie.Need-is-sized-requires
-is-sized-requires c κs = search needs
-
-name-at-requires : tie.Need-name-at-requires
-name-at-requires c κs = search needs
-
-all-name-bytes-requires : tie.Need-all-name-bytes-requires
-all-name-bytes-requires c κs = search needs
-
 returns : tie.Need-returns
 returns c =
     let s = c .before .before in
@@ -40,10 +28,10 @@ pub is-shaped-spec : {M : Type 1} → statement M
 is-shaped-spec =
     tie.close
     (tie.spec
-    is-headed-requires
-    is-sized-requires
-    name-at-requires
-    all-name-bytes-requires
+    (λ c κs. search needs)
+    (λ c κs. search needs)
+    (λ c κs. search needs)
+    (λ c κs. search needs)
     returns
     returns-2
     returns-3)

@@ -19,12 +19,6 @@ module _ (c : tie.After-fits-kind) where
   fits : fitting (asked kindAt) (asked valueLength) ≡ c .fits-kind .result
   fits = sym (c .fits-kind .ensures ∙ ap₂ fitting (c .before .before .byte .ensures) (c .before .length-at2 .ensures .0))
 
-add-length-at : tie.Need-add-length-at
-add-length-at c = search needs
-
-length-at-requires : tie.Need-length-at-requires
-length-at-requires c κs = search needs
-
 returns : tie.Need-returns
 unfolding sized
 returns c = rw (← c .before .length-at .ensures .0, lt-leb _ _ (c .if1 .taken))
@@ -32,24 +26,6 @@ returns c = rw (← c .before .length-at .ensures .0, lt-leb _ _ (c .if1 .taken)
 returns-2 : tie.Need-returns-2
 unfolding sized
 returns-2 c = rw (← c .before .before .length-at .ensures .0, le-leb _ _ (c .before .if1 .left), lt-leb _ _ (c .if2 .taken))
-
-add-byte : tie.Need-add-byte
-add-byte c = search needs
-
-byte-requires : tie.Need-byte-requires
-byte-requires c κs = search needs
-
-add-length-at-2 : tie.Need-add-length-at-2
-add-length-at-2 c = search needs
-
-length-at-requires-2 : tie.Need-length-at-requires-2
-length-at-requires-2 c κs = search needs
-
-fits-kind-requires : tie.Need-fits-kind-requires
-fits-kind-requires c κs = search needs
-
-next-place-requires : tie.Need-next-place-requires
-next-place-requires c κs = search needs
 
 returns-3 : tie.Need-returns-3
 unfolding sized
@@ -76,15 +52,15 @@ pub is-sized-spec : {M : Type 1} → statement M
 is-sized-spec =
     tie.close
     (tie.spec
-    add-length-at
-    length-at-requires
+    (λ c. search needs)
+    (λ c κs. search needs)
     returns
     returns-2
-    add-byte
-    byte-requires
-    add-length-at-2
-    length-at-requires-2
-    fits-kind-requires
-    next-place-requires
+    (λ c. search needs)
+    (λ c κs. search needs)
+    (λ c. search needs)
+    (λ c κs. search needs)
+    (λ c κs. search needs)
+    (λ c κs. search needs)
     returns-3
     returns-4)

@@ -11,15 +11,6 @@ use Rattle.numbers.proofs.Laws.{radix-range}
 use Rattle.numbers.proofs.forms.Base.last_glyph.Statement.{statement}
 use Rattle.numbers.proofs.forms.Base.last_glyph.Tie as tie
 
-last-digit-requires : tie.Need-last-digit-requires
-last-digit-requires c κs = search needs
-
-add-result : tie.Need-add-result
-add-result c = search needs
-
-cast-result : tie.Need-cast-result
-cast-result c = search needs
-
 returns : tie.Need-returns
 returns c = below (c .before .last-digit .result) 10 _ _ (c .if1 .taken) refl ∙ ap glyph (c .before .last-digit .ensures)
 
@@ -41,4 +32,5 @@ returns-2 c = not-below (c .before .last-digit .result) 10 _ _ (c .if1 .left) re
 
 pub last-glyph-spec : {M : Type 1} → statement M
 last-glyph-spec =
-    tie.close (tie.spec last-digit-requires add-result cast-result returns add-result-2 cast-result-2 returns-2)
+    tie.close (tie.spec (λ c κs. search needs) (λ c. search needs) (λ c. search needs) returns add-result-2 cast-result-2
+    returns-2)

@@ -7,9 +7,6 @@ use Rattle.numbers.proofs.Bounds.{bits-range}
 use Rattle.numbers.proofs.forms.Width.low_bits.Statement.{statement}
 use Rattle.numbers.proofs.forms.Width.low_bits.Tie as tie
 
-span-requires : tie.Need-span-requires
-span-requires c κs = search needs
-
 low-part-requires : tie.Need-low-part-requires
 low-part-requires c κs =
     let width = c .before .args .self in
@@ -19,4 +16,4 @@ returns : tie.Need-returns
 returns c = c .low-part .ensures ∙ ap (λ s. c .before .before .args .value % s) (c .before .span .ensures)
 
 pub low-bits-spec : {M : Type 1} → statement M
-low-bits-spec = tie.close (tie.spec span-requires low-part-requires returns)
+low-bits-spec = tie.close (tie.spec (λ c κs. search needs) low-part-requires returns)
