@@ -4,6 +4,7 @@ ghost use mathlib.Core.List.{_++_};
 ghost use Prim.Native.Nat.{_+_, _≤_};
 ghost use lib.ListN.{length, take, drop};
 ghost use Rattle.filter.specs.Lines.{decimal, refusalLine};
+use runs::output::copy;
 
 // "refused", the number, "at" and the place. What stands behind the line stays.
 pub(crate) fn refusal(number: u8, place: usize, out: &mut [u8]) -> usize
@@ -35,10 +36,6 @@ fn put(bytes: &[u8], at: usize, out: &mut [u8]) -> usize
     ensures next { λ r. ⌜ r ≡ at + length (now (bytes .entry)) ⌝ }
     ensures buffer { λ r. ⌜ now (out .exit) ≡ take at (now (out .entry)) ++ now (bytes .entry) ++ drop r (now (out .entry)) ⌝ }
 {
-    let mut i = 0;
-    while i < bytes.len() {
-        out[at + i] = bytes[i];
-        i += 1;
-    }
-    at + i
+    copy(bytes, at, out);
+    at + bytes.len()
 }

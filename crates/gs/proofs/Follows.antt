@@ -9,8 +9,8 @@ use Rattle.variables.specs.Names.{Meaning, pattern}
 use Rattle.numbers.specs.Calls.{decimalOf}
 use Rattle.gs.specs.Readings.{Expand, givesAll, wholeText, expands}
 use Rattle.gs.specs.inner.Steps.{Laid, Came, came-going, came-refused, Read, read-ended, read-refused, partOf, pieceOf, progressOf}
-use Rattle.gs.specs.declared.steps.Referred.{Referred}
-use Rattle.gs.specs.declared.steps.Referred.the-variants.{Number, TooBig, Unknown, Text, Integer, Macro}
+use Rattle.references.specs.declared.Referred.{Referred}
+use Rattle.references.specs.declared.Referred.the-variants.{Number, TooBig, Unknown, Text, Integer, Macro}
 use Rattle.gs.specs.declared.steps.Progress.{Progress}
 use Rattle.gs.specs.declared.steps.Progress.the-variants.{Going, Refused}
 use Rattle.gs.specs.declared.steps.Expanded.{Expanded}

@@ -5,9 +5,10 @@ use mathlib.Core.List.{List, [], _∷_, _++_}
 use Prim.Native.Nat.{ℕ, suc, _+_, _≤_}
 use native.Mathlib.Nat.{add-suc, suc-add, add-zero}
 use native.Mathlib.Omega.{arith}
-use lib.Dec.{eqb}
+use lib.Dec.{leb, eqb}
+use borrow.Author.Tests.{le-leb}
 use lib.ListN.{length, getD, set, length-append}
-use lib.Seq.{sets}
+use lib.Seq.{sets, length-sets}
 use Rattle.paper.specs.Refusals.{too-big}
 use Rattle.paper.specs.Traces.{Trace, faults, gives, asks, spends, bytes, run}
 use Rattle.paper.specs.declared.faults.Fault.the-variants as Faults
@@ -25,9 +26,11 @@ use Rattle.variables.specs.declared.kinds.Kind.the-variants.{Text, Integer, Mac
 use Rattle.variables.proofs.Own.{Own, sought-own, own-value}
 use Rattle.numbers.specs.Calls.{decimalOf}
 use Rattle.gs.specs.Readings.{Expand, givesAll, nameGives, contentGives}
-use Rattle.gs.specs.inner.Steps.{Laid, Passes, partOf, kinded, matchedAs, referredAs, referredIn, pieceOf, lengthIn}
-use Rattle.gs.specs.declared.steps.Referred.{Referred}
-use Rattle.gs.specs.declared.steps.Referred.the-variants.{TooBig}
+use Rattle.references.specs.References.{kinded, matchedAs, referredAs, referredIn}
+use Rattle.runs.specs.Output.{laidAt}
+use Rattle.gs.specs.inner.Steps.{Laid, Passes, partOf, pieceOf, lengthIn}
+use Rattle.references.specs.declared.Referred.{Referred}
+use Rattle.references.specs.declared.Referred.the-variants.{TooBig}
 
 module _ (rest : Trace) where
   run-all : (bs : List ℕ) (left : ℕ) → run (givesAll bs rest) left ≡ run rest left
@@ -52,6 +55,14 @@ sets-append (x ∷ xs) ys l i =
 
 pub laid-none : (out : List ℕ) (to : ℕ) → Laid out to [] out
 laid-none out to = record { long = refl; fits = λ _. refl }
+
+-- what is laid where it fits
+pub laid-at : (out given after : List ℕ) (to : ℕ) → after ≡ laidAt out to given → Laid out to given after
+laid-at out given after to e =
+    record {
+      long = ap length e ∙ either (λ l. length l ≡ length out) (leb (to + length given) (length out)) (λ _. length-sets out to given) (λ _. refl);
+      fits = λ h. e ∙ ap (λ b. cond b (sets out to given) out) (le-leb (to + length given) (length out) h);
+    }
 
 pub laid-more : (out xs ys middle after : List ℕ) (to : ℕ) → Laid out to xs middle → Laid middle (to + length xs) ys after → Laid out to (xs ++ ys) after
 laid-more out xs ys middle after to first second =

@@ -1,62 +1,52 @@
--- Runs of bytes that stand for themselves: one behind the other, and what they make of the walk through a text.
+-- What a run of bytes that stand for themselves makes of the walk through a text.
 use mathlib.Core.Path.{_≡_, refl, ap, sym, subst, _∙_}
-use mathlib.Core.Bool.{Bool, true, false, _&&_}
+use mathlib.Core.Bool.{Bool, true, false, not, _&&_, and-eq-true-iff}
 use mathlib.Core.List.{List, _∷_, _++_, append-assoc}
 use Prim.Native.Nat.{ℕ, zero, suc, _+_, _-_, _≤_, _<_}
-use native.Mathlib.Decide.{decLt}
 use native.Mathlib.Numerals.{add-one}
 use native.Mathlib.Omega.{arith}
-use borrow.Author.Tests.{ne-eqb}
+use borrow.Author.Tests.{ne-eqb, eqb-false, not-true}
 use lib.Dec.{eqb}
 use lib.ListN.{length, getD, take, drop, length-append, length-take, length-drop}
 use lib.Seq.{drop-cons}
+use Rattle.paper.proofs.Choice.{clash}
 use Rattle.paper.specs.Traces.{Trace, gives, bytes, run}
 use Rattle.variables.specs.Names.{Meaning}
 use Rattle.symbols.specs.declared.forms.Mode.{Mode}
 use Rattle.symbols.specs.declared.forms.Mode.the-variants.{Plain, Quoted}
 use Rattle.symbols.specs.Flags.{spaceEnds}
 use Rattle.symbols.specs.Symbols.{endingSpace}
-use Rattle.gs.specs.inner.RunSteps.{PlainByte, Stretch, alsoEnds}
+use Rattle.symbols.specs.inner.SymbolSteps.{Ordinary}
+use Rattle.runs.specs.Plain.{marked, plainByte, alsoEnds}
+use Rattle.runs.specs.inner.Stretches.{Stretch}
 use Rattle.gs.specs.Readings.{Expand, symbolGives, symbolsFrom}
 use Rattle.gs.specs.inner.Steps.{Laid}
 use Rattle.symbols.proofs.Laws.{ordinary-byte}
 use Rattle.gs.proofs.Pieces.{laid-more}
 use Rattle.gs.proofs.Walk.{Walk}
 
-module _ (also : ℕ) (text : List ℕ) where
-  pub stretch-none : (start stop : ℕ) → stop ≡ start → start ≤ length text → Stretch also text start stop
-  stretch-none start stop e h = record { forward = omega arith; inside = omega arith; plain = λ k low high. absurd (omega arith) }
+module _ (also c : ℕ) (p : plainByte also c ≡ true) where
+  -- a byte that is not plain is another one
+  differs : (k : ℕ) → plainByte also k ≡ false → c ≡ k → ⊥
+  differs k fails e = let both : true ≡ false = sym p ∙ ap (plainByte also) e ∙ fails in clash (cc)
 
-  module _ (start middle stop : ℕ) (s : Stretch also text start middle) where
-    -- a run and a run behind it
-    pub stretch-more : Stretch also text middle stop → Stretch also text start stop
-    stretch-more t =
-        record {
-          forward = omega (arith, s .forward, t .forward);
-          inside = t .inside;
-          plain = λ k low high. cases k low high (decLt k middle);
-        }
-      where
-        cases : (k : ℕ) → start ≤ k → k < stop → Dec (k < middle) → PlainByte also (getD text k 0)
-        cases k low high (yes h) = s .plain k low h
-        cases k low high (no h) = t .plain k (omega (arith, h)) high
+  plain-ordinary : Ordinary c
+  plain-ordinary =
+      record {
+        no-zero = differs 0 refl;
+        no-line = differs 10 refl;
+        no-return = differs 13 refl;
+        no-quote = differs 34 refl;
+        no-reference = differs 60 refl;
+        no-bar = differs 124 refl;
+      }
 
-    -- a run and one byte more
-    pub stretch-next : stop ≡ middle + 1 → middle < length text → PlainByte also (getD text middle 0) → Stretch also text start stop
-    stretch-next e h p =
-        stretch-more (
-        record {
-          forward = omega arith;
-          inside = omega arith;
-          plain = λ k low high.
-              let same : middle ≡ k = omega arith in
-              subst (λ k. PlainByte also (getD text k 0)) same p;
-        }
-        )
+  plain-differs : c ≡ also → ⊥
+  plain-differs = eqb-false c also (not-true (eqb c also) (and-eq-true-iff (not (marked c)) _ .0 p .1))
 
 -- in a run no space ends the text
-space-goes-on : (flags : ℕ) (mode : Mode) (c : ℕ) → PlainByte (alsoEnds (endingSpace flags mode 32)) c → endingSpace flags mode c ≡ false
-space-goes-on flags Plain c p = go (spaceEnds flags) (p .no-other)
+space-goes-on : (flags : ℕ) (mode : Mode) (c : ℕ) → plainByte (alsoEnds (endingSpace flags mode 32)) c ≡ true → endingSpace flags mode c ≡ false
+space-goes-on flags Plain c p = go (spaceEnds flags) (plain-differs (alsoEnds (endingSpace flags Plain 32)) c p)
   where
     go : (b : Bool) → (c ≡ alsoEnds (b && true) → ⊥) → (b && eqb c 32) ≡ false
     go true n = ne-eqb c 32 n
@@ -68,7 +58,7 @@ module _ (names : List ℕ → Meaning) (expand : Expand) (text : List ℕ) (fla
   goes-on more here = symbolsFrom names more expand text flags mode here
 
   abbrev plain-to : ℕ → Type 0
-  plain-to here = Stretch (alsoEnds (endingSpace flags mode 32)) text here stop
+  plain-to here = Stretch (plainByte (alsoEnds (endingSpace flags mode 32))) text here stop
 
   -- how the reading goes on behind a run of some bytes
   record Past (count more here : ℕ) : Type 0 where
@@ -80,13 +70,14 @@ module _ (names : List ℕ → Meaning) (expand : Expand) (text : List ℕ) (fla
   one-plain : (less here : ℕ) → here < stop → plain-to here → goes-on (suc less) here ≡ gives (getD text here 0) (goes-on less (here + 1))
   unfolding symbolsFrom symbolGives
   one-plain less here h s =
-      let p = s .plain here (omega arith) h in
-      let is-byte = ordinary-byte text flags here mode (p .ordinary) (space-goes-on flags mode (getD text here 0) p) in
+      let c = getD text here 0 in
+      let p = s .passes here (omega arith) h in
+      let is-byte = ordinary-byte text flags here mode (plain-ordinary (alsoEnds (endingSpace flags mode 32)) c p) (space-goes-on flags mode c p) in
       ap (λ s. symbolGives names expand text here s (symbolsFrom names less expand text flags mode)) is-byte
 
   -- a run from its second byte on
   shorter : (here : ℕ) → here < stop → plain-to here → plain-to (here + 1)
-  shorter here h s = record { forward = omega arith; inside = s .inside; plain = λ k low high. s .plain k (omega arith) high }
+  shorter here h s = record { forward = omega arith; inside = s .inside; passes = λ k low high. s .passes k (omega arith) high }
 
   first-of : (here count : ℕ) → here < length text → take (suc count) (drop here text) ≡ getD text here 0 ∷ take count (drop (here + 1) text)
   first-of here count h = rw (add-one, drop-cons text here 0)
@@ -118,11 +109,11 @@ module _ (names : List ℕ → Meaning) (expand : Expand) (text : List ℕ) (fla
 module _ (names : List ℕ → Meaning) (expand : Expand) (text : List ℕ) (flags left to : ℕ) (out : List ℕ) (mode : Mode) where
   pub at-run : (after after′ : List ℕ) (here far rest stop : ℕ) (spacesEnd : Bool)
       → Walk names expand text flags left to out mode after here far rest
-      → spacesEnd ≡ endingSpace flags mode 32 → Stretch (alsoEnds spacesEnd) text here stop
+      → spacesEnd ≡ endingSpace flags mode 32 → Stretch (plainByte (alsoEnds spacesEnd)) text here stop
       → Laid after far (take (stop - here) (drop here text)) after′
       → Walk names expand text flags left to out mode after′ stop (far + (stop - here)) rest
   at-run after after′ here far rest stop spacesEnd w e s laid =
-      let stretch : Stretch (alsoEnds (endingSpace flags mode 32)) text here stop = subst (λ b. Stretch (alsoEnds b) text here stop) e s in
+      let stretch : Stretch (plainByte (alsoEnds (endingSpace flags mode 32))) text here stop = subst (λ b. Stretch (plainByte (alsoEnds b)) text here stop) e s in
       let piece = take (stop - here) (drop here text) in
       let size : length piece ≡ stop - here = simp (length-take, length-drop) (omega (arith, s .inside)) in
       let b = past names expand text flags mode stop (stop - here) (w .more) here (omega (arith, s .forward)) (w .fuel) stretch in

@@ -12,7 +12,8 @@ use Rattle.paper.specs.declared.faults.Fault.{Fault}
 use Rattle.variables.specs.Names.{Meaning, namesOf}
 use Rattle.symbols.specs.Symbols.{symbolAt, firstAt, modeOf}
 use Rattle.gs.specs.Readings.{Expand, symbolGives, symbolsFrom, wholeText}
-use Rattle.gs.specs.inner.Steps.{Laid, Passes, Came, came-going, came-refused, Read, read-ended, read-refused, referredIn, pieceOf}
+use Rattle.gs.specs.inner.Steps.{Laid, Passes, Came, came-going, came-refused, Read, read-ended, read-refused, pieceOf}
+use Rattle.references.specs.References.{referredIn}
 use Rattle.symbols.specs.declared.forms.Mode.{Mode}
 use Rattle.symbols.specs.declared.forms.Symbol.{Symbol}
 use Rattle.symbols.specs.declared.forms.Symbol.the-variants.{End, Byte, Reference, Faulty}

@@ -9,16 +9,17 @@ ghost use Rattle.gs.specs.Readings.{wholeText, expands};
 ghost use Rattle.gs.specs.inner.Steps.{Came, Read, pieceOf, lengthIn, progressOf};
 ghost use Rattle.gs.specs.declared.steps.Expanded.the-variants as Expanded;
 ghost use Rattle.gs.specs.declared.steps.Progress.the-variants as Progress;
-use crate::output;
-use crate::references;
-use crate::runs;
 use crate::steps::Expanded;
 use crate::steps::Progress;
-use crate::steps::Referred;
+use crate::values;
 use paper::ALLOWANCE_SPENT;
 use paper::TOO_BIG;
 use paper::TOO_DEEP;
 use paper::UNKNOWN_NAME;
+use references::Referred;
+use references::resolve;
+use runs::output;
+use runs::plain::plain_end;
 use symbols::bytes::is_ending_space;
 use symbols::flags::Flags;
 use symbols::forms::Symbol;
@@ -65,8 +66,8 @@ fn follow(
         }
         Referred::TooBig => refused_reference(TOO_BIG, place),
         Referred::Unknown => refused_reference(UNKNOWN_NAME, place),
-        Referred::Text(v) => references::give(variables::value_of(table, v), left, place, to, out),
-        Referred::Integer(v) => references::give_integer(
+        Referred::Text(v) => values::give(variables::value_of(table, v), left, place, to, out),
+        Referred::Integer(v) => values::give_integer(
             variables::value_of(table, v),
             left,
             place,
@@ -131,7 +132,7 @@ pub(crate) fn expand(
     let spaces_end = is_ending_space(flags, mode, b' ');
     loop {
         // Bytes that stand for themselves go over as one run; the symbol behind them is the next that needs a thought.
-        let run_end = runs::plain_end(text, here, spaces_end);
+        let run_end = plain_end(text, here, spaces_end);
         output::copy(&text[here..run_end], far, out);
         far += run_end - here;
         here = run_end;
@@ -145,7 +146,7 @@ pub(crate) fn expand(
                 here = next;
             }
             Symbol::Reference { start, end, next } => {
-                let referred = references::resolve(&text[start..end], table, keys);
+                let referred = resolve(&text[start..end], table, keys);
                 let came = follow(referred, table, keys, levels, rest, here, far, out);
                 match came {
                     Progress::Going { to: t, left: l } => {

@@ -7,10 +7,8 @@ ghost use Rattle.variables.specs.inner.Keys.{Keys};
 ghost use Rattle.gs.specs.Translations.{readingOf, refusedAt, translatedBy, leftBy, translated, outAfter};
 
 mod expansion;
-mod output;
-mod references;
-mod runs;
 pub mod steps;
+mod values;
 
 use paper::LONGEST;
 use paper::NO_ROOM;

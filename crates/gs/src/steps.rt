@@ -1,15 +1,4 @@
-// What a reference stands for, and how far a reference and a text come.
-use variables::Variable;
-
-// What a reference's content stands for.
-pub enum Referred {
-    Number(u8),
-    TooBig,
-    Unknown,
-    Text(Variable),
-    Integer(Variable),
-    Macro(Variable),
-}
+// How far a reference and a text come.
 
 // How far a reference came: to the place `to` of the output with `left` look-ups, or to a refusal.
 pub enum Progress {

@@ -1,6 +1,6 @@
 -- Laws that every chapter's proofs share.
 pub mod Choice
-pub mod Spaces
+pub mod Runs
 pub mod Placed
 pub mod Listed
 pub mod DemandThree

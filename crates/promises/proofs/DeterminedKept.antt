@@ -1,7 +1,7 @@
 -- Every public function beside the six operations has one answer: its contract says it as a function of what is given.
 use mathlib.Core.Path.{_≡_, refl, ap, ap₂, sym, subst, _∙_}
 use mathlib.Core.Bool.{not}
-use mathlib.Core.List.{List, _++_}
+use mathlib.Core.List.{List, [], _∷_, _++_}
 use Prim.Native.Nat.{ℕ, _+_}
 use denote.Ref.{now}
 use lib.Dec.{eqb}
@@ -17,6 +17,9 @@ use Rattle.variables.specs.inner.Keys.{KeyedAs, matchAs, soughtBy}
 use Rattle.variables.proofs.KeysFind.{one-keyed}
 use Rattle.symbols.specs.Flags.{has}
 use Rattle.symbols.specs.Symbols.{symbolAt, firstAt, modeOf, endingSpace}
+use Rattle.runs.specs.Plain.{plainByte, alsoEnds}
+use Rattle.runs.specs.Output.{laidAt}
+use Rattle.references.specs.References.{referredBy}
 use Rattle.tokens.specs.Tokens.{Lexeme, tokenAt}
 use Rattle.parts.specs.Links.{Link, binds, none}
 use Rattle.parts.specs.inner.Steps as Parts
@@ -76,6 +79,11 @@ determined =
       flags-of = function-of (λ (word, _). record { 0 = word }) (λ κs a r after c. ap (λ w. record { 0 = w }) c);
       flags-none = function-of (λ a. record { 0 = 0 }) (λ κs a r after c. ap (λ w. record { 0 = w }) c);
       flags-has = function-of (λ (flags, (bit, _)). has (flags .0) bit) (λ κs a r after c. c);
+      plain-end =
+          function-of (λ (text, (start, (spacesEnd, _))). start + Bytes.runOf (plainByte (alsoEnds spacesEnd)) (drop start text)) (λ κs a r after c. c);
+      put = function-of (λ (byte, (to, (out, _))). (tt, laidAt out to (byte ∷ []))) (λ κs a r after c. ap (λ out. (tt, out)) c);
+      copy = function-of (λ (given, (to, (out, _))). (tt, laidAt out to given)) (λ κs a r after c. ap (λ out. (tt, out)) c);
+      resolve = function-of (λ (content, (table, (keys, _))). referredBy table keys content) (λ κs a r after c. c);
       level = function-of (λ (operator, _). Operators.levelOf operator) (λ κs a r after c. c);
       stands-alone = function-of (λ (operator, _). Operators.standsAlone operator) (λ κs a r after c. c);
       divides = function-of (λ (operator, _). Operators.divides operator) (λ κs a r after c. c);

@@ -12,13 +12,13 @@ use lib.ListN.{length, getD, drop}
 use lib.Seq.{getD-append-add, getD-drop}
 use borrow.Author.Tests.{lt-ltb, le-ltb, le-leb, lt-leb, ne-eqb}
 use Rattle.paper.specs.Refusals.{longest}
-use Rattle.paper.specs.Bytes.{spaces}
+use Rattle.paper.specs.Bytes.{space, spaces}
 use Rattle.numbers.specs.Digits.{glyph, digits}
 use Rattle.numbers.specs.Strings.{radix, Form, used, count, string}
 use Rattle.numbers.specs.declared.forms.Base.{Base}
 use Rattle.numbers.specs.declared.forms.Base.the-variants.{Two, Ten, Sixteen}
 use Rattle.paper.proofs.Choice.{skip, other, not-below}
-use Rattle.paper.proofs.Spaces.{space-none}
+use Rattle.paper.proofs.Runs.{run-none}
 use Rattle.numbers.proofs.Laws.{below-power, digits-length}
 use Rattle.numbers.proofs.Bounds.{used-below, span-word, count-holds, count-from}
 use Rattle.reader.specs.Reading.{digit, run, worth, goesOn, judged, no-limit, based, inBase, marked, numbered, reading, valued}
@@ -125,7 +125,7 @@ decimal-start : (text : List ℕ) (whole : Bool) (limit : ℕ) → 48 ≤ getD t
     → getD text (0 + length (run 10 (drop 0 text))) 0 ≤ 32 → reading text whole limit ≡ based text whole limit 0 0 10
 unfolding reading numbered
 decimal-start text whole limit digit-first short low =
-    let start : spaces text ≡ 0 = space-none text 0 (λ e. omega arith) in
+    let start : spaces text ≡ 0 = run-none space text 0 (ne-eqb (getD text 0 0) 32 (λ e. omega arith)) in
     let end = 0 + length (run 10 (drop 0 text)) in
     let unmarked : marked text 0 end ≡ false = rw (ne-eqb (getD text end 0) 95 (λ e. omega arith)) (and-false (ltb 0 end)) in
     let plain : based text whole limit 0 0 10 ≡ numbered text whole limit 0 =

@@ -28,6 +28,10 @@ use Rattle.arithmetic.proofs.values.binary.Reads as binary
 use Rattle.symbols.proofs.symbols.symbol_at.Reads as symbol-at
 use Rattle.symbols.proofs.symbols.open.Reads as open-text
 use Rattle.symbols.proofs.bytes.is_ending_space.Reads as is-ending-space
+use Rattle.runs.proofs.plain.plain_end.Reads as plain-end
+use Rattle.runs.proofs.output.put.Reads as put
+use Rattle.runs.proofs.output.copy.Reads as copy
+use Rattle.references.proofs.resolve.Reads as resolve
 use Rattle.tokens.proofs.token_at.Reads as token-at
 use Rattle.parts.proofs.behind.operator_behind.Reads as operator-behind
 use Rattle.parts.proofs.behind.closed.Reads as closed-part
@@ -94,6 +98,12 @@ pub record Determined : Type 0 where
   pub flags-of : One flags-of.Learnt rest answer-alone
   pub flags-none : One flags-none.Learnt rest answer-alone
   pub flags-has : One flags-has.Learnt rest answer-alone
+  -- runs
+  pub plain-end : One plain-end.Learnt (lent rest) answer-alone
+  pub put : One put.Learnt (plain (plain (lent rest))) (answer-and (λ (byte, (to, (out, _))). out))
+  pub copy : One copy.Learnt (lent (plain (lent rest))) (answer-and (λ (given, (to, (out, _))). out))
+  -- references
+  pub resolve : One resolve.Learnt (lent (lent (lent rest))) answer-alone
   -- arithmetic
   pub level : One level.Learnt rest answer-alone
   pub stands-alone : One stands-alone.Learnt rest answer-alone

@@ -8,12 +8,12 @@ use borrow.Author.Tests.{ltb-false, eqb-true}
 use lib.Dec.{ltb, eqb}
 use lib.ListN.{length, getD, drop}
 use Rattle.paper.specs.Refusals.{longest}
-use Rattle.paper.specs.Bytes.{spaces}
+use Rattle.paper.specs.Bytes.{space, spaces}
 use Rattle.reader.specs.declared.Reading.{Reading}
 use Rattle.reader.specs.declared.Reading.the-variants.{Value, Refused}
 use Rattle.reader.specs.Reading.{readNumber, readPlace, readValue, numbers, run, worth, goesOn, judged, based, inBase, marked, numbered, reading}
 use Rattle.paper.proofs.Choice.{either}
-use Rattle.paper.proofs.Spaces.{inside, spaces-within}
+use Rattle.paper.proofs.Runs.{inside, run-short}
 use Rattle.reader.proofs.Laws.{run-within}
 
 pub record Bounded (r : Reading) : Type 0 where
@@ -62,7 +62,7 @@ pub reading-bounded : (text : List ℕ) (whole : Bool) (limit : ℕ) → Bounded
 unfolding reading
 reading-bounded text whole limit =
     either Bounded (ltb longest (length text)) (λ _. record { number = omega arith; place = omega arith; value = omega arith; listed = tail (head refl) })
-    (λ short. numbered-bounded text whole limit (spaces text) (ltb-false longest (length text) short) (spaces-within text))
+    (λ short. numbered-bounded text whole limit (spaces text) (ltb-false longest (length text) short) (run-short space text))
 
 -- a refusal has a number
 abbrev pub Numbered : Reading → Type 0

@@ -10,7 +10,7 @@ use lib.Dec.{ltb, eqb}
 use lib.ListN.{length, getD, drop}
 use lib.Seq.{drop-cons}
 use Rattle.paper.specs.Bytes.{ends}
-use Rattle.paper.proofs.Spaces.{inside}
+use Rattle.paper.proofs.Runs.{inside}
 use Rattle.variables.specs.Records.{nameByte}
 use Rattle.symbols.specs.declared.forms.Mode.{Mode}
 use Rattle.symbols.specs.declared.forms.Mode.the-variants.{Plain, Quoted}

@@ -7,11 +7,11 @@ use native.Mathlib.Omega.{arith}
 use borrow.Author.Tests.{ltb-true, leb-false, eqb-true}
 use lib.Dec.{ltb, leb, eqb}
 use lib.ListN.{length, getD, drop}
-use Rattle.paper.specs.Bytes.{spaces, ends}
+use Rattle.paper.specs.Bytes.{space, spaces, ends}
 use Rattle.paper.specs.Traces.{faultNumber}
 use Rattle.paper.specs.declared.faults.Fault.the-variants.{BadCode}
 use Rattle.paper.proofs.Choice.{either}
-use Rattle.paper.proofs.Spaces.{inside, spaces-within, skipped-within}
+use Rattle.paper.proofs.Runs.{inside, run-short, passed-within}
 use Rattle.symbols.specs.declared.forms.Mode.{Mode}
 use Rattle.symbols.specs.declared.forms.Mode.the-variants.{Plain, Quoted}
 use Rattle.symbols.specs.declared.forms.Symbol.{Symbol}
@@ -114,7 +114,7 @@ module _ (text : List ℕ) (flags : ℕ) (mode : Mode) (at : ℕ) (a : at ≤ le
   unfolding closed
   closed-stands h =
       let end = at + 1 + spaces (drop (at + 1) text) in
-      let far : end ≤ length text = skipped-within text (at + 1) h in
+      let far : end ≤ length text = passed-within space text (at + 1) h in
       either S (spaceEnds flags)
       (λ _. either S (ends (getD text (at + 1) 0) || eqb (getD text (at + 1) 0) 32) (λ _. omega arith) (λ _. omega arith))
       (λ _. either S (ends (getD text end 0)) (λ _. omega arith) (λ _. omega arith))
@@ -167,4 +167,4 @@ first-stands text flags = go (quoteOpens text flags) refl
         let quote = eqb-true (getD text (spaces text) 0) 34 (and-eq-true-iff (eqb (getD text (spaces text) 0) 34) _ .0 e .0) in
         let h = inside text (spaces text) (omega arith) in
         (omega (arith, h), omega (arith, h))
-    go false e = (omega (arith, spaces-within text), omega arith)
+    go false e = (omega (arith, run-short space text), omega arith)

@@ -6,10 +6,10 @@ use Prim.Native.Nat.{ℕ, _+_, _≤_}
 use native.Mathlib.Omega.{arith}
 use lib.Dec.{eqb}
 use lib.ListN.{length, getD, drop, length-drop}
-use Rattle.paper.specs.Bytes.{spaces, ends}
+use Rattle.paper.specs.Bytes.{space, spaces, ends}
 use Rattle.paper.specs.Texts.{bytes}
 use Rattle.paper.proofs.Choice.{either}
-use Rattle.paper.proofs.Spaces.{skipped-within}
+use Rattle.paper.proofs.Runs.{passed-within}
 use Rattle.reader.specs.Reading.{no-limit, reading}
 use Rattle.reader.specs.declared.Reading.{Reading}
 use Rattle.reader.specs.declared.Reading.the-variants.{Value, Refused}
@@ -82,4 +82,4 @@ module _ (text : List ℕ) where
       (λ _. either InText (numeral c) (λ _. number-in at (reading (drop at text) false no-limit) h (reading-reads (drop at text) false no-limit)) (λ _. symbol-in at h)))
 
   pub token-in : (at : ℕ) → at ≤ size → InText (tokenAt text at)
-  token-in at h = starting-in (at + spaces (drop at text)) (skipped-within text at h)
+  token-in at h = starting-in (at + spaces (drop at text)) (passed-within space text at h)

@@ -8,10 +8,10 @@ use native.Mathlib.Omega.{arith}
 use borrow.Author.Tests.{eqb-true, eqb-false}
 use lib.Dec.{ltb, eqb}
 use lib.ListN.{length, getD, drop, length-drop, List·getD-eq-default}
-use Rattle.paper.specs.Bytes.{spaces, ends}
+use Rattle.paper.specs.Bytes.{space, spaces, ends}
 use Rattle.paper.specs.Refusals.{longest}
 use Rattle.paper.proofs.Choice.{either, hit}
-use Rattle.paper.proofs.Spaces.{inside, spaces-within}
+use Rattle.paper.proofs.Runs.{inside, run-short}
 use Rattle.reader.specs.declared.Reading.{Reading}
 use Rattle.reader.specs.declared.Reading.the-variants.{Value, Refused}
 use Rattle.reader.specs.Reading.{run, goesOn, no-limit, judged, based, inBase, marked, numbered, reading}
@@ -80,7 +80,7 @@ module _ (text : List ℕ) (whole : Bool) (limit start : ℕ) where
 pub reading-reads : (text : List ℕ) (whole : Bool) (limit : ℕ) → Reads (length text) (reading text whole limit)
 unfolding reading
 reading-reads text whole limit =
-    either (Reads (length text)) (ltb longest (length text)) (λ _. omega arith) (λ _. numbered-reads text whole limit _ (spaces-within text))
+    either (Reads (length text)) (ltb longest (length text)) (λ _. omega arith) (λ _. numbered-reads text whole limit _ (run-short space text))
 
 -- the token that starts at a place
 module _ (text : List ℕ) (at : ℕ) where

@@ -22,8 +22,8 @@ use Rattle.variables.specs.declared.Variable.{Variable}
 use Rattle.variables.specs.declared.kinds.Kind.{Kind}
 use Rattle.variables.specs.declared.kinds.Kind.the-variants as Kinds
 use Rattle.gs.specs.Readings.{Expand, givesAll}
-use Rattle.gs.specs.declared.steps.Referred.{Referred}
-use Rattle.gs.specs.declared.steps.Referred.the-variants.{Number, TooBig, Unknown, Text, Integer, Macro}
+use Rattle.references.specs.declared.Referred.{Referred}
+use Rattle.references.specs.declared.Referred.the-variants.{Number, TooBig, Unknown, Text, Integer, Macro}
 use Rattle.gs.specs.declared.steps.Progress.{Progress}
 use Rattle.gs.specs.declared.steps.Progress.the-variants as Progresses
 use Rattle.gs.specs.declared.steps.Expanded.{Expanded}
@@ -59,25 +59,7 @@ pub data Read (trace : Trace) (size left to : ℕ) (out after : List ℕ) : Expa
 abbrev pub partOf : List ℕ → Variable → List ℕ
 partOf table v = take (v .length) (drop (v .start) table)
 
--- what a look-up answers, as a reference
-abbrev pub kinded : Kind → Variable → Referred
-kinded Kinds.Text v = Text v
-kinded Kinds.Integer v = Integer v
-kinded Kinds.Macro v = Macro v
-
-abbrev pub matchedAs : Match → Referred
-matchedAs (Record v) = kinded (v .kind) v
-matchedAs Missing = Unknown
-
-abbrev pub referredAs : Reading → Referred → Referred
-referredAs (Value n) named = Number (n .value % 256)
-referredAs (Refused number at) named = cond (eqb number too-big) TooBig named
-
--- what a content stands for in a table
-unfoldable pub referredIn : List ℕ → List ℕ → Referred
-referredIn table name = referredAs (reading name true no-limit) (matchedAs (matchAs table (soughtIn table name)))
-
--- the piece of a reading that it makes
+-- the piece of a reading that a reference makes
 unfoldable pub pieceOf : List ℕ → Expand → Referred → List ℕ → ℕ → Trace → Trace
 pieceOf table expand (Number byte) name place rest = gives byte rest
 pieceOf table expand TooBig name place rest = faults Faults.TooBig place

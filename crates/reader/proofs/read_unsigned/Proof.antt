@@ -8,8 +8,8 @@ use native.Mathlib.Omega.{arith}
 use borrow.Author.Needs.{needs}
 use borrow.Author.Tests.{eq-eqb, ne-eqb, lt-ltb, le-ltb}
 use lib.ListN.{length, getD, drop}
-use Rattle.paper.specs.Bytes.{spaces}
-use Rattle.paper.proofs.Spaces.{spaces-within}
+use Rattle.paper.specs.Bytes.{space, spaces}
+use Rattle.paper.proofs.Runs.{run-short}
 use Rattle.reader.specs.declared.Reading.{Reading}
 use Rattle.reader.specs.Reading.{run, worth, judged, inBase, marked, numbered, reading}
 use Rattle.reader.specs.inner.Steps.{cut}
@@ -41,7 +41,7 @@ module _ (c : tie.After-skip-spaces) where
   begins = c .skip-spaces .ensures ∙ zero-add _
 
   start-within : c .skip-spaces .result ≤ length text
-  start-within = omega (arith, begins, spaces-within text)
+  start-within = omega (arith, begins, run-short space text)
 
   from-start : asked reading ≡ asked numbered (c .skip-spaces .result)
   unfolding reading

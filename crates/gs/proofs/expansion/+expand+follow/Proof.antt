@@ -8,9 +8,14 @@ use borrow.Author.Needs.{needs}
 use denote.Ref.{now}
 use Rattle.variables.specs.Names.{namesOf}
 use Rattle.gs.specs.Readings.{expands, wholeText}
-use Rattle.gs.specs.inner.Steps.{Came, Read, pieceOf, lengthIn, referredIn, partOf}
+use Rattle.runs.specs.Plain.{plainByte, alsoEnds}
+use Rattle.runs.specs.inner.Stretches.{Stretch}
+use Rattle.runs.proofs.StretchLaws.{run-stretch}
+use Rattle.references.specs.References.{referredIn}
+use Rattle.references.proofs.Resolved.{by-own-keys}
+use Rattle.gs.specs.inner.Steps.{Came, Read, pieceOf, lengthIn, partOf}
 use Rattle.variables.specs.declared.Variable.{Variable}
-use Rattle.gs.proofs.Pieces.{value-small}
+use Rattle.gs.proofs.Pieces.{laid-at, value-small}
 use Rattle.gs.proofs.PlainRuns.{at-run}
 use Rattle.symbols.proofs.Places.{Stands, quoteOf, symbol-stands}
 use Rattle.gs.proofs.Follows.{number-gives, too-big-gives, unknown-gives, text-gives, integer-gives, too-deep-gives, spent-gives, value-gives}
@@ -34,12 +39,12 @@ use Rattle.gs.proofs.expansion.refused_text.Reads as refused-text-reads
 use Rattle.gs.proofs.expansion.refused_reference.Reads as refused-reference-reads
 use Rattle.symbols.proofs.flags.Flags.none.Reads as none-reads
 use Rattle.symbols.proofs.bytes.is_ending_space.Reads as is-ending-space-reads
-use Rattle.gs.proofs.runs.plain_end.Reads as plain-end-reads
-use Rattle.gs.proofs.output.copy.Reads as copy-reads
-use Rattle.gs.proofs.output.put.Reads as put-reads
-use Rattle.gs.proofs.references.give.Reads as give-reads
-use Rattle.gs.proofs.references.give_integer.Reads as give-integer-reads
-use Rattle.gs.proofs.references.resolve.Reads as resolve-reads
+use Rattle.runs.proofs.plain.plain_end.Reads as plain-end-reads
+use Rattle.runs.proofs.output.copy.Reads as copy-reads
+use Rattle.runs.proofs.output.put.Reads as put-reads
+use Rattle.gs.proofs.values.give.Reads as give-reads
+use Rattle.gs.proofs.values.give_integer.Reads as give-integer-reads
+use Rattle.references.proofs.resolve.Reads as resolve-reads
 use Rattle.symbols.proofs.symbols.open.Reads as open-reads
 use Rattle.symbols.proofs.symbols.symbol_at.Reads as symbol-at-reads
 use Rattle.paper.proofs.faults.Fault.number.Reads as number-reads
@@ -106,24 +111,32 @@ expand-loop-holds t c =
     start names (expands names (a .levels)) (a .text .now) (a .flags .0) (a .left) (a .to) (a .out .now) (c .before .open .result .mode)
     (c .before .open .result .at) (c .before .open .ensures .0) (c .before .open .ensures .1)
 
-expand-plain-end-requires : (t : ℕ) → expand-lts.Need-plain-end-requires (expand-calls t) (expand-at t) expand.Post expand-Inv-loop expand-μ-loop
-expand-plain-end-requires t c κs = c .loop .inv .inside
+-- what the run passes over is a stretch of plain bytes
+expand-stretch :
+    (t : ℕ) (c : expand-lts.After-plain-end (expand-calls t) (expand-at t) expand.Post expand-Inv-loop expand-μ-loop) →
+    Stretch (plainByte (alsoEnds (c .before .before .is-ending-space .result))) (c .before .before .before .before .before .before .before .before .args .text .now)
+    (c .before .loop .here) (c .plain-end .result)
+expand-stretch t c =
+    let test = plainByte (alsoEnds (c .before .before .is-ending-space .result)) in
+    let text = c .before .before .before .before .before .before .before .before .args .text .now in
+    subst (Stretch test text (c .before .loop .here)) (sym (c .plain-end .ensures))
+    (run-stretch test text (c .before .loop .here) (c .before .loop .inv .inside))
 
 expand-sub-copy : (t : ℕ) → expand-lts.Need-sub-copy (expand-calls t) (expand-at t) expand.Post expand-Inv-loop expand-μ-loop
-expand-sub-copy t c = omega (arith, c .plain-end .ensures .forward, c .plain-end .ensures .inside)
+expand-sub-copy t c = omega (arith, expand-stretch t c .forward, expand-stretch t c .inside)
 
 expand-part-copy-start : (t : ℕ) → expand-lts.Need-part-copy-start (expand-calls t) (expand-at t) expand.Post expand-Inv-loop expand-μ-loop
-expand-part-copy-start t c = omega (arith, c .plain-end .ensures .forward, c .plain-end .ensures .inside)
+expand-part-copy-start t c = omega (arith, expand-stretch t c .forward, expand-stretch t c .inside)
 
 expand-part-copy-end : (t : ℕ) → expand-lts.Need-part-copy-end (expand-calls t) (expand-at t) expand.Post expand-Inv-loop expand-μ-loop
-expand-part-copy-end t c = omega (arith, c .plain-end .ensures .forward, c .plain-end .ensures .inside)
+expand-part-copy-end t c = omega (arith, expand-stretch t c .forward, expand-stretch t c .inside)
 
 expand-sub-far : (t : ℕ) → expand-lts.Need-sub-far (expand-calls t) (expand-at t) expand.Post expand-Inv-loop expand-μ-loop
-expand-sub-far t c = omega (arith, c .before .before .before .before .before .plain-end .ensures .forward)
+expand-sub-far t c = omega (arith, expand-stretch t (c .before .before .before .before .before) .forward)
 
 expand-add-far : (t : ℕ) → expand-lts.Need-add-far (expand-calls t) (expand-at t) expand.Post expand-Inv-loop expand-μ-loop
 expand-add-far t c =
-    let run = c .before .before .before .before .before .plain-end .ensures in
+    let run = expand-stretch t (c .before .before .before .before .before) in
     let w = c .before .before .before .before .before .before .loop .inv in
     omega (arith, c .before .before .before .before .before .before .before .before .before .before .before .before .before .pre .1, w .place, w .small, run .forward, run .inside)
 
@@ -162,7 +175,7 @@ module _ (t : ℕ) (c : expand-lts.After-symbol-at (expand-calls t) (expand-at t
       let names = namesOf (a .table .now) in
       let l = expand-turn .loop in
       at-run names (expands names (a .levels)) expand-text (a .flags .0) (a .left) (a .to) (a .out .now) expand-mode (l .out) expand-out (l .here) (l .far) (l .rest)
-      expand-here _ (l .inv) (c .before .before .before .before .before .before .before .before .is-ending-space .ensures) (expand-passed .plain-end .ensures) (c .before .before .before .copy .ensures)
+      expand-here _ (l .inv) (c .before .before .before .before .before .before .before .before .is-ending-space .ensures) (expand-stretch t expand-passed) (laid-at _ _ _ _ (c .before .before .before .copy .ensures))
 
   -- that an answer is how far the text came
   abbrev expand-read : List ℕ → Expanded → Type 0
@@ -175,7 +188,7 @@ module _ (t : ℕ) (c : expand-lts.After-symbol-at (expand-calls t) (expand-at t
   expand-stands : (s : Symbol) → c .symbol-at .result ≡ s → Stands (length expand-text) expand-here (quoteOf expand-mode) s
   expand-stands s e =
       symbol-stands expand-text (expand-begun .args .flags .0) expand-mode expand-here
-      (expand-passed .plain-end .ensures .inside)
+      (expand-stretch t expand-passed .inside)
       (sym (c .symbol-at .ensures) ∙ e)
 
 expand-returns : (t : ℕ) → expand-lts.Need-returns (expand-calls t) (expand-at t) expand.Post expand-Inv-loop expand-μ-loop
@@ -209,7 +222,7 @@ expand-loop-less : (t : ℕ) → expand-lts.Need-loop-less (expand-calls t) (exp
 expand-loop-less t c =
     let s = c .before .before .before .before .before .before .before in
     let byte = expand-stands t s _ (c .before .before .before .before .before .symbol3 .given .1) in
-    omega (arith, byte .forward, byte .within, expand-passed t s .plain-end .ensures .forward)
+    omega (arith, byte .forward, byte .within, expand-stretch t (expand-passed t s) .forward)
 
 expand-loop-again : (t : ℕ) → expand-lts.Need-loop-again (expand-calls t) (expand-at t) expand.Post expand-Inv-loop expand-μ-loop
 expand-loop-again t c =
@@ -220,7 +233,7 @@ expand-loop-again t c =
     let byte = c .before .before .before .before .before .symbol3 .given in
     let stands = expand-stands t s _ (byte .1) in
     at-byte names (expands names (a .levels)) (expand-text t s) (a .flags .0) (a .left) (a .to) (a .out .now) (expand-mode t s) (expand-out t s) (expand-here t s) (expand-far t s) rest
-    (byte .0 .0) (byte .0 .1 .0) _ (expand-walk t s) (sym (s .symbol-at .ensures) ∙ byte .1) (stands .forward) (stands .within) (c .before .before .put .ensures)
+    (byte .0 .0) (byte .0 .1 .0) _ (expand-walk t s) (sym (s .symbol-at .ensures) ∙ byte .1) (stands .forward) (stands .within) (laid-at _ _ _ _ (c .before .before .put .ensures))
 
 expand-sub-resolve : (t : ℕ) → expand-lts.Need-sub-resolve (expand-calls t) (expand-at t) expand.Post expand-Inv-loop expand-μ-loop
 expand-sub-resolve t c =
@@ -247,14 +260,14 @@ expand-follow-requires t c κs =
     let name = take (r .0 .1 .0 - r .0 .0) (drop (r .0 .0) (expand-text t s)) in
     let small = value-small (a .table .now) (λ k. omega (arith, s .before .before .before .before .before .before .before .before .before .before .before .before .shared-slice-known2 .given k)) name in (
       omega (arith, pre .0),
-      (omega (arith, pre .1, w .place, w .small, w .inside), subst (λ r. lengthIn r ≤ 255) (sym (c .before .resolve .ensures)) small, pre .1 .2),
+      (omega (arith, pre .1, w .place, w .small, w .inside), subst (λ r. lengthIn r ≤ 255) (sym (c .before .resolve .ensures ∙ by-own-keys (a .table .now) name (a .keys .now) (pre .1 .2))) small, pre .1 .2),
     )
 
 expand-loop-less-2 : (t : ℕ) → expand-lts.Need-loop-less-2 (expand-calls t) (expand-at t) expand.Post expand-Inv-loop expand-μ-loop
 expand-loop-less-2 t c =
     let s = c .before .before .before .before .before .before .before .before .before .before .before .before in
     let stands = expand-stands t s _ (c .before .before .before .before .before .before .before .before .before .before .symbol4 .given .1) in
-    omega (arith, stands .begins, stands .long, stands .behind, stands .within, expand-passed t s .plain-end .ensures .forward)
+    omega (arith, stands .begins, stands .long, stands .behind, stands .within, expand-stretch t (expand-passed t s) .forward)
 
 expand-loop-again-2 : (t : ℕ) → expand-lts.Need-loop-again-2 (expand-calls t) (expand-at t) expand.Post expand-Inv-loop expand-μ-loop
 expand-loop-again-2 t c =
@@ -266,7 +279,7 @@ expand-loop-again-2 t c =
     let name = take (r .0 .1 .0 - r .0 .0) (drop (r .0 .0) (expand-text t s)) in
     let follow = c .before .before .before .before .before .follow in
     let came = subst (λ k. Came (pieceOf (a .table .now) (expands names (a .levels)) k name (expand-here t s)) rest (expand-far t s) (expand-out t s) (follow .last .1 .1 .1 .1 .1 .1 .1 .0) (follow .result))
-    (c .before .before .before .before .before .before .before .resolve .ensures) (follow .ensures name) in
+    (c .before .before .before .before .before .before .before .resolve .ensures ∙ by-own-keys (a .table .now) name (a .keys .now) (expand-begun t s .pre .1 .2)) (follow .ensures name) in
     let piece = pieceOf (a .table .now) (expands names (a .levels)) (referredIn (a .table .now) name) name (expand-here t s) in
     let stands = expand-stands t s _ (r .1) in
     at-reference (a .table .now) (expands names (a .levels)) (expand-text t s) (a .flags .0) (a .left) (a .to) (a .out .now) (expand-mode t s) (expand-out t s) (expand-here t s) (expand-far t s) rest
@@ -291,7 +304,7 @@ expand-returns-3 t c =
     let name = take (r .0 .1 .0 - r .0 .0) (drop (r .0 .0) (expand-text t s)) in
     let follow = k .before .before .before .before .before .follow in
     let came = subst (λ k. Came (pieceOf (a .table .now) (expands names (a .levels)) k name (expand-here t s)) rest (expand-far t s) (expand-out t s) (follow .last .1 .1 .1 .1 .1 .1 .1 .0) (follow .result))
-    (k .before .before .before .before .before .before .before .resolve .ensures) (follow .ensures name) in
+    (k .before .before .before .before .before .before .before .resolve .ensures ∙ by-own-keys (a .table .now) name (a .keys .now) (expand-begun t s .pre .1 .2)) (follow .ensures name) in
     let piece = pieceOf (a .table .now) (expands names (a .levels)) (referredIn (a .table .now) name) name (expand-here t s) in
     let both = came-to-refusal piece rest (expand-far t s) (expand-out t s) _ _ _ _ came (k .before .came2 .given .1) in
     subst (expand-read t s (follow .last .1 .1 .1 .1 .1 .1 .1 .0)) (sym (c .refused-text2 .ensures))
@@ -355,7 +368,7 @@ follow-returns-3 t c name =
     let a = c .before .before .before .before .before .before .before .before .before .before .args in
     let names = namesOf (a .table .now) in
     let k = c .before .before .before .before .before .referred .given in
-    number-gives (a .table .now) (a .referred) name (a .left) (a .place) (a .to) (a .out .now) (expands names (a .levels)) (k .0 .0) _ (k .1) (c .before .before .put .ensures)
+    number-gives (a .table .now) (a .referred) name (a .left) (a .place) (a .to) (a .out .now) (expands names (a .levels)) (k .0 .0) _ (k .1) (laid-at _ _ _ _ (c .before .before .put .ensures))
 
 follow-returns-4 : (t : ℕ) → follow-lts.Need-returns-4 (follow-calls t) (follow-at t) follow.Post
 follow-returns-4 t c name =
@@ -403,7 +416,7 @@ pub +expand+follow-spec : {M : Type 1} → statement M
     (λ c κs. search needs)
     (λ c κs. search needs)
     (expand-loop-holds t)
-    (expand-plain-end-requires t)
+    (λ c κs. search needs)
     (expand-sub-copy t)
     (expand-part-copy-start t)
     (expand-part-copy-end t)

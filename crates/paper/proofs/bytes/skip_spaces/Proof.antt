@@ -4,10 +4,11 @@ use mathlib.Core.List.{List}
 use mathlib.Core.Path.{_≡_, refl}
 use Prim.Native.Nat.{ℕ, _+_, _-_, _<_}
 use native.Mathlib.Omega.{arith}
+use borrow.Author.Tests.{eq-eqb, ne-eqb}
 use borrow.Author.Needs.{needs}
-use lib.ListN.{length, drop}
-use Rattle.paper.specs.Bytes.{spaces}
-use Rattle.paper.proofs.Spaces.{inside, space-more, space-none}
+use lib.ListN.{length, getD, drop}
+use Rattle.paper.specs.Bytes.{space, spaces}
+use Rattle.paper.proofs.Runs.{inside, run-more, run-none}
 use Rattle.paper.proofs.bytes.skip_spaces.Statement.{statement}
 use Rattle.paper.proofs.bytes.skip_spaces.Tie as tie
 
@@ -38,10 +39,10 @@ loop-less : tie.Need-loop-less Inv-loop μ-loop
 loop-less c = omega (arith, further c)
 
 loop-again : tie.Need-loop-again Inv-loop μ-loop
-loop-again c = omega (arith, space-more (text (c .before)) (at (c .before)) (omega arith))
+loop-again c = omega (arith, run-more space (text (c .before)) (at (c .before)) (further c) (eq-eqb (getD (text (c .before)) (at (c .before)) 0) 32 (omega arith)))
 
 returns : tie.Need-returns Inv-loop μ-loop
-returns c = omega (arith, space-none (text (c .before)) (at (c .before)) (λ e. omega arith))
+returns c = omega (arith, run-none space (text (c .before)) (at (c .before)) (ne-eqb (getD (text (c .before)) (at (c .before)) 0) 32 (λ e. omega arith)))
 
 pub skip-spaces-spec : {M : Type 1} → statement M
 skip-spaces-spec =

@@ -8,9 +8,9 @@ use native.Mathlib.Omega.{arith}
 use borrow.Author.Needs.{needs}
 use lib.Dec.{eqb}
 use lib.ListN.{getD}
-use Rattle.paper.specs.Bytes.{spaces}
+use Rattle.paper.specs.Bytes.{space, spaces}
 use Rattle.paper.proofs.Choice.{hit, skip}
-use Rattle.paper.proofs.Spaces.{spaces-within}
+use Rattle.paper.proofs.Runs.{run-short}
 use Rattle.symbols.specs.Flags.{quotePlain}
 use Rattle.symbols.specs.Symbols.{firstAt, modeOf}
 use Rattle.symbols.specs.declared.forms.Mode.the-variants.{Plain, Quoted}
@@ -45,7 +45,7 @@ module _ (c : tie.After-is-mark) where
   marked e = rw (← c .before .byte .ensures, ← c .is-mark .ensures) e
 
 add-t6 : tie.Need-add-t6
-add-t6 c = omega (arith, begins (c .before), spaces-within (text (c .before)))
+add-t6 c = omega (arith, begins (c .before), run-short space (text (c .before)))
 
 returns : tie.Need-returns
 unfolding firstAt modeOf

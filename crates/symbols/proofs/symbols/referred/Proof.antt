@@ -6,7 +6,7 @@ use native.Mathlib.Omega.{arith}
 use borrow.Author.Needs.{needs}
 use borrow.Author.Tests.{eq-eqb, ne-eqb, lt-ltb, le-ltb}
 use lib.ListN.{drop}
-use Rattle.paper.proofs.Spaces.{inside}
+use Rattle.paper.proofs.Runs.{inside}
 use Rattle.symbols.specs.Symbols.{nameRun}
 use Rattle.symbols.specs.Symbols.{referred}
 use Rattle.symbols.proofs.symbols.referred.Statement.{statement}

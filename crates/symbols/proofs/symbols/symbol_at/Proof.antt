@@ -9,7 +9,7 @@ use borrow.Author.Tests.{eq-eqb, ne-eqb, ltb-true}
 use lib.Dec.{ltb, eqb}
 use lib.ListN.{length, getD}
 use Rattle.paper.specs.Bytes.{ends}
-use Rattle.paper.proofs.Spaces.{inside}
+use Rattle.paper.proofs.Runs.{inside}
 use Rattle.symbols.specs.inner.SymbolSteps.{unmarked, other}
 use Rattle.symbols.specs.Symbols.{active, barred, referred, symbolAt}
 use Rattle.symbols.specs.declared.forms.Mode.{Mode}

@@ -1,0 +1,2 @@
+-- What the proofs of references share.
+pub mod Resolved

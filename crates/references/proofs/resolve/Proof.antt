@@ -1,0 +1,51 @@
+-- `resolve` meets its contract: a value becomes a byte, and every other answer goes the name path.
+use mathlib.Core.Path.{_≡_, ap, sym, _∙_}
+use mathlib.Core.Bool.{true, cond}
+use mathlib.Core.List.{List}
+use Prim.Native.Nat.{ℕ, _%_}
+use lib.Dec.{eqb}
+use borrow.Author.Needs.{needs}
+use Rattle.paper.specs.Refusals.{too-big}
+use Rattle.reader.specs.Reading.{reading, no-limit, readNumber}
+use Rattle.reader.specs.declared.Number.{Number as Valued}
+use Rattle.reader.specs.declared.Reading.{Reading}
+use Rattle.reader.specs.declared.Reading.the-variants.{Value, Refused}
+use Rattle.variables.specs.inner.Keys.{soughtBy, matchAs}
+use Rattle.references.specs.References.{matchedAs, referredAs, referredBy}
+use Rattle.references.specs.declared.Referred.{Referred}
+use Rattle.references.specs.declared.Referred.the-variants.{Number, TooBig}
+use Rattle.references.proofs.resolve.Statement.{statement}
+use Rattle.references.proofs.resolve.Tie as tie
+
+by-name : (name table keys : List ℕ) (answer : Reading) (x : ℕ) (y : _) (number : ℕ) (r : Referred)
+    → answer ≡ reading name true no-limit → answer ≡ Refused x y → number ≡ readNumber answer
+    → r ≡ cond (eqb number too-big) TooBig (matchedAs (matchAs table (soughtBy table keys name))) → r ≡ referredBy table keys name
+unfolding referredBy
+by-name name table keys answer x y number r a e n h =
+    let named = matchedAs (matchAs table (soughtBy table keys name)) in
+    h ∙ ap (λ k. cond (eqb k too-big) TooBig named) (n ∙ ap readNumber e) ∙ ap (λ r. referredAs r named) (sym e ∙ a)
+
+returns : tie.Need-returns
+returns c =
+    by-name _ _ _ _ _ _ _ _ (c .before .before .before .before .read-unsigned .ensures) (c .before .before .enum-told .given .1) (c .before .refusal-of .ensures) (c .as-name .ensures)
+
+valued : (name table keys : List ℕ) (answer : Reading) (n : Valued) → answer ≡ reading name true no-limit → answer ≡ Value n
+    → Number (n .value % 256) ≡ referredBy table keys name
+unfolding referredBy
+valued name table keys answer n a v = ap (λ r. referredAs r (matchedAs (matchAs table (soughtBy table keys name)))) (sym v ∙ a)
+
+returns-2 : tie.Need-returns-2
+returns-2 c = valued _ _ _ _ _ (c .before .before .before .before .read-unsigned .ensures) (c .before .before .answer .given .1)
+
+pub resolve-spec : {M : Type 1} → statement M
+resolve-spec =
+    tie.close
+    (tie.spec
+    (λ c κs. search needs)
+    (λ c. search needs)
+    (λ c. search needs)
+    (λ c κs. search needs)
+    (λ c κs. search needs)
+    returns
+    (λ c. search needs)
+    returns-2)

@@ -1,0 +1,2 @@
+-- What a reference's content stands for.
+pub mod References

@@ -1,0 +1,46 @@
+-- What a content stands for: a number, or what a look-up answers, whether that goes through a table or by some keys.
+use mathlib.Core.Bool.{true, cond}
+use mathlib.Core.List.{List}
+use Prim.Native.Nat.{ℕ, _%_}
+use lib.Dec.{eqb}
+use Rattle.paper.specs.Refusals.{too-big}
+use Rattle.reader.specs.Reading.{reading, no-limit}
+use Rattle.reader.specs.declared.Reading.{Reading}
+use Rattle.reader.specs.declared.Reading.the-variants.{Value, Refused}
+use Rattle.variables.specs.Records.{Sought}
+use Rattle.variables.specs.Tables.{soughtIn}
+use Rattle.variables.specs.inner.Keys.{soughtBy, matchAs}
+use Rattle.variables.specs.declared.Match.{Match}
+use Rattle.variables.specs.declared.Match.the-variants.{Record, Missing}
+use Rattle.variables.specs.declared.Variable.{Variable}
+use Rattle.variables.specs.declared.kinds.Kind.{Kind}
+use Rattle.variables.specs.declared.kinds.Kind.the-variants as Kinds
+use Rattle.references.specs.declared.Referred.{Referred}
+use Rattle.references.specs.declared.Referred.the-variants.{Number, TooBig, Unknown, Text, Integer, Macro}
+
+-- what a look-up answers, as a reference
+abbrev pub kinded : Kind → Variable → Referred
+kinded Kinds.Text v = Text v
+kinded Kinds.Integer v = Integer v
+kinded Kinds.Macro v = Macro v
+
+abbrev pub matchedAs : Match → Referred
+matchedAs (Record v) = kinded (v .kind) v
+matchedAs Missing = Unknown
+
+-- a value becomes a byte, its remainder by 256; too big is refused; any other refusal makes it a name
+abbrev pub referredAs : Reading → Referred → Referred
+referredAs (Value n) named = Number (n .value % 256)
+referredAs (Refused number at) named = cond (eqb number too-big) TooBig named
+
+-- a content, where so much is found of it as a name
+abbrev pub referredTo : List ℕ → Sought → List ℕ → Referred
+referredTo table sought name = referredAs (reading name true no-limit) (matchedAs (matchAs table sought))
+
+-- what it stands for in a table
+unfoldable pub referredIn : List ℕ → List ℕ → Referred
+referredIn table name = referredTo table (soughtIn table name) name
+
+-- and by some keys, whatever their lines are
+unfoldable pub referredBy : List ℕ → List ℕ → List ℕ → Referred
+referredBy table keys name = referredTo table (soughtBy table keys name) name

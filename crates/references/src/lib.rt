@@ -1,0 +1,79 @@
+// References: what a reference's content stands for, a number or a variable of a table.
+ghost use mathlib.Core.Path.{_≡_};
+ghost use mathlib.Core.Bool.{cond};
+ghost use lib.Dec.{eqb};
+ghost use Rattle.paper.specs.Refusals.{«too-big»};
+ghost use Rattle.reader.specs.Reading.{readNumber};
+ghost use Rattle.variables.specs.inner.Keys.{soughtBy, matchAs};
+ghost use Rattle.references.specs.References.{kinded, matchedAs, referredBy};
+ghost use Rattle.references.specs.declared.Referred.the-variants as Referred;
+use paper::TOO_BIG;
+use reader::NO_LIMIT;
+use reader::Reading;
+use variables::Match;
+use variables::Variable;
+use variables::keys::find;
+use variables::kinds::Kind;
+
+// What a reference's content stands for.
+pub enum Referred {
+    Number(u8),
+    TooBig,
+    Unknown,
+    Text(Variable),
+    Integer(Variable),
+    Macro(Variable),
+}
+
+fn by_kind(kind: Kind, v: Variable) -> Referred
+    ensures { λ r. ⌜ r ≡ kinded kind v ⌝ }
+{
+    match kind {
+        Kind::Text => Referred::Text(v),
+        Kind::Integer => Referred::Integer(v),
+        Kind::Macro => Referred::Macro(v),
+    }
+}
+
+// What a look-up answered, as a reference.
+fn as_matched(m: Match) -> Referred
+    ensures { λ r. ⌜ r ≡ matchedAs m ⌝ }
+{
+    match m {
+        Match::Record(v) => {
+            let kind = v.kind;
+            by_kind(kind, v)
+        }
+        Match::Missing => Referred::Unknown,
+    }
+}
+
+// The name path: a number that is too big is refused, and every other content is a name.
+fn as_name(number: u8, content: &[u8], table: &[u8], keys: &[u32]) -> Referred
+    ensures { λ r. ⌜ r ≡ cond (eqb number «too-big») Referred.TooBig (matchedAs (matchAs (now (table .entry)) (soughtBy (now (table .entry)) (now (keys .entry)) (now (content .entry))))) ⌝ }
+{
+    if number == TOO_BIG {
+        return Referred::TooBig;
+    }
+    as_matched(find(table, keys, content))
+}
+
+fn refusal_of(answer: Reading) -> u8
+    ensures { λ r. ⌜ r ≡ readNumber answer ⌝ }
+{
+    match answer {
+        Reading::Value(_) => 0,
+        Reading::Refused { number, at: _ } => number,
+    }
+}
+
+// What the content of a reference stands for, over a table and some keys: a value becomes a byte, otherwise it goes the name path.
+pub fn resolve(content: &[u8], table: &[u8], keys: &[u32]) -> Referred
+    ensures { λ r. ⌜ r ≡ referredBy (now (table .entry)) (now (keys .entry)) (now (content .entry)) ⌝ }
+{
+    let answer = reader::read_unsigned(content, true, NO_LIMIT);
+    let Reading::Value(n) = answer else {
+        return as_name(refusal_of(answer), content, table, keys);
+    };
+    Referred::Number((n.value % 256) as u8)
+}

@@ -1,0 +1,2 @@
+-- What the proofs of runs share.
+pub mod StretchLaws
