@@ -7,7 +7,7 @@ ghost use lib.Dec.{eqb};
 ghost use lib.ListN.{length};
 ghost use Rattle.paper.specs.Refusals.{«too-big»};
 ghost use Rattle.paper.specs.Traces.{asks, spends};
-ghost use Rattle.numbers.specs.Calls.{decimalOf};
+ghost use Rattle.forms.specs.Calls.{decimalOf};
 ghost use Rattle.reader.specs.Reading.{readNumber};
 ghost use Rattle.variables.specs.Tables.{soughtIn};
 ghost use Rattle.variables.specs.inner.Keys.{Keys, matchAs};

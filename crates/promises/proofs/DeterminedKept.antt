@@ -8,7 +8,8 @@ use lib.Dec.{eqb}
 use lib.ListN.{length, take, drop, getD}
 use Rattle.paper.specs.Bytes as Bytes
 use Rattle.paper.specs.Traces.{allowed, faultNumber}
-use Rattle.numbers.specs.Calls.{decimalOf, answerOf, bufferOf, convertedBy}
+use Rattle.forms.specs.Calls.{decimalOf}
+use Rattle.numbers.specs.Conversions.{answerOf, bufferOf, convertedBy}
 use Rattle.reader.specs.Reading.{reading}
 use Rattle.variables.specs.Names.{pattern}
 use Rattle.variables.specs.Records.{nameByte}
