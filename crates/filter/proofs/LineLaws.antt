@@ -8,8 +8,8 @@ use native.Mathlib.Omega.{arith}
 use lib.ListN.{length, take, drop, length-append}
 use lib.Seq.{take-at, drop-append-add, drop-drop}
 use Rattle.io.specs.Digits.{digits, Fewest}
-use Rattle.numbers.specs.Digits.{digitCount}
-use Rattle.numbers.proofs.Laws.{below-power, enough-least, enough-holds, enough-from}
+use Rattle.forms.specs.Digits.{digitCount}
+use Rattle.forms.proofs.Laws.{below-power, enough-least, enough-holds, enough-from}
 use Rattle.filter.specs.Lines.{decimal, refused, at, line-end, refusalLine}
 
 -- the fewest digits that hold a number are as many as it has

@@ -2,7 +2,7 @@
 use mathlib.Core.List.{List, [], _∷_, _++_}
 use Prim.Native.Nat.{ℕ}
 use Rattle.io.specs.Digits.{digits}
-use Rattle.numbers.specs.Digits.{digitCount}
+use Rattle.forms.specs.Digits.{digitCount}
 
 -- a number in decimal, with as many digits as it has
 unfoldable pub decimal : ℕ → List ℕ

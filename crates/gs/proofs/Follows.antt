@@ -6,7 +6,7 @@ use native.Mathlib.Omega.{arith}
 use lib.ListN.{length}
 use Rattle.paper.specs.Traces.{asks, spends, bytes, run, onward}
 use Rattle.variables.specs.Names.{Meaning, pattern}
-use Rattle.numbers.specs.Calls.{decimalOf}
+use Rattle.forms.specs.Calls.{decimalOf}
 use Rattle.gs.specs.Readings.{Expand, givesAll, wholeText, expands}
 use Rattle.gs.specs.inner.Steps.{Laid, Came, came-going, came-refused, Read, read-ended, read-refused, partOf, pieceOf, progressOf}
 use Rattle.references.specs.declared.Referred.{Referred}

@@ -17,10 +17,10 @@ use Rattle.paper.proofs.DemandThree.{refused-number, finished-within}
 use Rattle.reader.specs.Reading.{reading, no-limit}
 use Rattle.reader.specs.declared.Reading.{Reading}
 use Rattle.reader.specs.declared.Reading.the-variants.{Value, Refused}
-use Rattle.numbers.specs.declared.forms.Width.the-variants.{Word}
+use Rattle.forms.specs.Calls.{decimalOf}
+use Rattle.forms.specs.declared.forms.Width.the-variants.{Word}
 use Rattle.numbers.proofs.Bounds.{decimal-short}
 use Rattle.symbols.specs.Symbols.{symbolAt, firstAt, modeOf}
-use Rattle.numbers.specs.Calls.{decimalOf}
 use Rattle.gs.specs.Readings.{givesAll, deepest, Expand, nameGives, contentGives, symbolGives, symbolsFrom, wholeText, expands}
 use Rattle.gs.specs.Translations.{readingOf, translatedBy, translatedOver, translated, translatedAnswer, metNumbers, translateNumbers}
 use Rattle.gs.specs.declared.Translated.{Translated}

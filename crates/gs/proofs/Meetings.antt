@@ -18,7 +18,7 @@ use Rattle.reader.specs.declared.Reading.{Reading}
 use Rattle.reader.specs.declared.Reading.the-variants.{Value, Refused}
 use Rattle.variables.specs.Names.{Meaning, unknown, string-of, integer-of, macro-of}
 use Rattle.symbols.specs.Symbols.{symbolAt, firstAt, modeOf}
-use Rattle.numbers.specs.Calls.{decimalOf}
+use Rattle.forms.specs.Calls.{decimalOf}
 use Rattle.gs.specs.Readings.{givesAll, deepest, Expand, nameGives, contentGives, symbolGives, symbolsFrom, wholeText, expands, readAt}
 use Rattle.gs.specs.Translations.{translateNumbers}
 use Rattle.symbols.specs.declared.forms.Mode.{Mode}

@@ -24,7 +24,7 @@ use Rattle.variables.specs.declared.Variable.{Variable}
 use Rattle.variables.specs.declared.kinds.Kind.{Kind}
 use Rattle.variables.specs.declared.kinds.Kind.the-variants.{Text, Integer, Macro}
 use Rattle.variables.proofs.Own.{Own, sought-own, own-value}
-use Rattle.numbers.specs.Calls.{decimalOf}
+use Rattle.forms.specs.Calls.{decimalOf}
 use Rattle.gs.specs.Readings.{Expand, givesAll, nameGives, contentGives}
 use Rattle.references.specs.References.{kinded, matchedAs, referredAs, referredIn}
 use Rattle.runs.specs.Output.{laidAt}

@@ -7,7 +7,7 @@ use lib.ListN.{length, take, drop}
 use Rattle.paper.specs.Refusals.{too-big}
 use Rattle.paper.specs.Traces.{Trace, ended, faults, gives, asks, spends, enters}
 use Rattle.paper.specs.declared.faults.Fault.the-variants.{TooBig, UnknownName, TooDeep}
-use Rattle.numbers.specs.Calls.{decimalOf}
+use Rattle.forms.specs.Calls.{decimalOf}
 use Rattle.reader.specs.Reading.{reading, no-limit}
 use Rattle.reader.specs.declared.Reading.the-variants.{Value, Refused}
 use Rattle.reader.specs.declared.Reading.{Reading as Read}

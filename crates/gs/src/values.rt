@@ -3,7 +3,7 @@ ghost use mathlib.Core.List.{List};
 ghost use Prim.Native.Nat.{ℕ, _≤_, _^_};
 ghost use lib.ListN.{length};
 ghost use Rattle.paper.specs.Traces.{asks, spends};
-ghost use Rattle.numbers.specs.Calls.{decimalOf};
+ghost use Rattle.forms.specs.Calls.{decimalOf};
 ghost use Rattle.variables.specs.Names.{pattern};
 ghost use Rattle.gs.specs.Readings.{givesAll};
 ghost use Rattle.gs.specs.inner.Steps.{Came};

@@ -1,7 +1,7 @@
 // A number into a buffer.
 ghost use mathlib.Core.Path.{_≡_};
 ghost use lib.ListN.{length};
-ghost use Rattle.numbers.specs.Calls.{answerOf, bufferOf};
+ghost use Rattle.numbers.specs.Conversions.{answerOf, bufferOf};
 ghost use Rattle.nosgoludd.specs.Faces.{answerFace};
 use crate::IN_THE_TEXT;
 use crate::NosAnswer;

@@ -12,20 +12,16 @@ use borrow.Author.Tests.{leb-true}
 use Rattle.paper.specs.Answers.{Answer}
 use Rattle.paper.specs.Layings.{roomFor, laying}
 use Rattle.paper.proofs.Choice.{either}
-use Rattle.numbers.specs.Digits.{enough, digitCount}
-use Rattle.numbers.specs.Strings.{radix, bits, largest, Form, used, negative, magnitude, count, string}
-use Rattle.numbers.specs.Calls.{decimal, Described, unknown, known, described, answerIn, answerOf}
-use Rattle.numbers.specs.inner.Steps.{spreadOf, numberIn}
-use Rattle.numbers.specs.declared.forms.Width.{Width}
-use Rattle.numbers.specs.declared.forms.Width.the-variants.{Nibble, Byte, TwoBytes, ThreeBytes, Word}
-use Rattle.numbers.proofs.Laws.{radix-range, below-power, enough-from, enough-holds, enough-least, string-length}
-
-pub bits-range : (w : Width) → (4 ≤ bits w) × (bits w ≤ 32)
-bits-range Nibble = omega arith
-bits-range Byte = omega arith
-bits-range TwoBytes = omega arith
-bits-range ThreeBytes = omega arith
-bits-range Word = omega arith
+use Rattle.forms.specs.Digits.{enough, digitCount}
+use Rattle.forms.specs.Strings.{radix, bits, largest, Form, used, negative, magnitude, count, string}
+use Rattle.forms.specs.Calls.{decimal, Described, unknown, known, described}
+use Rattle.forms.specs.inner.Steps.{numberIn}
+use Rattle.forms.specs.declared.forms.Width.{Width}
+use Rattle.forms.specs.declared.forms.Width.the-variants.{Nibble, Byte, TwoBytes, ThreeBytes, Word}
+use Rattle.forms.proofs.Laws.{radix-range, bits-range, below-power, enough-from, enough-holds, enough-least}
+use Rattle.numbers.specs.Conversions.{answerIn, answerOf}
+use Rattle.numbers.specs.inner.Steps.{spreadOf}
+use Rattle.numbers.proofs.Laws.{string-length}
 
 -- the used bits are below the width's span
 pub used-below : (form : Form) (value : ℕ) → used form value < 2 ^ bits (form .width)

@@ -6,7 +6,8 @@ use Prim.Native.Nat.{ℕ}
 use lib.Dec.{ltb}
 use Rattle.paper.specs.Layings.{roomFor, laying}
 use Rattle.paper.proofs.Choice.{either}
-use Rattle.numbers.specs.Calls.{Described, unknown, known, described, answerIn, answerOf, convertedBy, convertedAnswer}
+use Rattle.forms.specs.Calls.{Described, unknown, known, described}
+use Rattle.numbers.specs.Conversions.{answerIn, answerOf, convertedBy, convertedAnswer}
 
 laying-kept : (string : List ℕ) (terminated : Bool) (room : ℕ) → convertedAnswer (convertedBy (laying string terminated room)) ≡ laying string terminated room
 unfolding laying

@@ -4,11 +4,13 @@ use mathlib.Core.List.{List}
 use Prim.Native.Nat.{ℕ}
 use lib.ListN.{length}
 use Rattle.paper.specs.Layings.{laying, laidIn}
-use Rattle.numbers.specs.Strings.{radix, Form, count, string}
-use Rattle.numbers.specs.Calls.{known, answerIn, bufferIn, convertedBy}
-use Rattle.numbers.specs.inner.Steps.{numberIn, stringOf}
+use Rattle.forms.specs.Strings.{radix, Form, count, string}
+use Rattle.forms.specs.Calls.{known}
+use Rattle.forms.specs.inner.Steps.{numberIn}
+use Rattle.forms.specs.declared.size.Number.{Number}
+use Rattle.numbers.specs.Conversions.{answerIn, bufferIn, convertedBy}
+use Rattle.numbers.specs.inner.Steps.{stringOf}
 use Rattle.numbers.specs.declared.Converted.{Converted}
-use Rattle.numbers.specs.declared.size.Number.{Number}
 
 module _ (form : Form) (value : ℕ) (number : Number) (k : ℕ) where
   abbrev text : List ℕ

@@ -1,5 +1,3 @@
--- Numbers to strings, in the paper's order: the digits of a number, the string of a form, the calls.
-pub mod Digits
-pub mod Strings
-pub mod Calls
+-- Numbers to strings: what a conversion answers and leaves in the buffer. What a call writes is in `forms`.
+pub mod Conversions
 pub mod inner

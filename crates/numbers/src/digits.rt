@@ -1,4 +1,4 @@
-// Digits: how many a number has, how far they spread with their spaces, and the writing of them.
+// Digits: how far they spread with their spaces, and the writing of them.
 ghost use mathlib.Core.Path.{_≡_};
 ghost use mathlib.Core.Bool.{cond, _&&_};
 ghost use mathlib.Core.List.{_++_};
@@ -6,30 +6,10 @@ ghost use Prim.Native.Nat.{_+_, _-_, _≤_};
 ghost use lib.Dec.{eqb};
 ghost use lib.ListN.{length, take, drop};
 ghost use lib.Seq.{sets};
-ghost use Rattle.numbers.specs.Digits.{digits, digitCount};
-ghost use Rattle.numbers.specs.Strings.{radix};
+ghost use Rattle.forms.specs.Digits.{digits};
+ghost use Rattle.forms.specs.Strings.{radix};
 ghost use Rattle.numbers.specs.inner.Steps.{spreadOf, gapBefore};
-use crate::forms::Base;
-
-// The decimal digits of n: one, and one more for each power of ten that n reaches. There is no jump here that the processor could
-// guess wrong.
-pub(crate) fn count_decimal(n: u32) -> usize
-    ensures { λ r. ⌜ (r ≡ digitCount 10 n) × (r ≤ 10) ⌝ }
-{
-    let thousands = one_if(10 <= n) + one_if(100 <= n) + one_if(1000 <= n);
-    let millions = one_if(10000 <= n) + one_if(100000 <= n) + one_if(1000000 <= n);
-    let billions = one_if(10000000 <= n) + one_if(100000000 <= n) + one_if(1000000000 <= n);
-    1 + thousands + millions + billions
-}
-
-pub(crate) fn one_if(present: bool) -> usize
-    ensures { λ r. ⌜ (r ≡ cond present 1 0) × (r ≤ 1) ⌝ }
-{
-    if present {
-        return 1;
-    }
-    0
-}
+use forms::forms::Base;
 
 // Whether a space stands before the digits that are done: the group before which it would stand has `group` of them.
 fn gap_before(spaced: bool, group: usize) -> bool

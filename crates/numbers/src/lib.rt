@@ -5,23 +5,24 @@ ghost use mathlib.Core.List.{_++_};
 ghost use Prim.Native.Nat.{_≤_};
 ghost use lib.ListN.{length, drop, set};
 ghost use Rattle.paper.specs.Layings.{laying, laidIn};
-ghost use Rattle.numbers.specs.Digits.{digitCount};
-ghost use Rattle.numbers.specs.Strings.{radix, largest};
-ghost use Rattle.numbers.specs.Calls.{fixed, decimal, decimalOf, known, answerIn, bufferIn, answerOf, bufferOf, convertedBy};
+ghost use Rattle.forms.specs.Digits.{digitCount};
+ghost use Rattle.forms.specs.Strings.{radix, largest};
+ghost use Rattle.forms.specs.Calls.{fixed, decimal, decimalOf, known};
+ghost use Rattle.numbers.specs.Conversions.{answerIn, bufferIn, answerOf, bufferOf, convertedBy};
 ghost use Rattle.numbers.specs.inner.Steps.{charactersOf, stringOf};
 
-mod calls;
 mod digits;
-pub mod forms;
-mod size;
 
-use calls::Family;
-use digits::one_if;
-use forms::Base;
-use forms::Width;
+use forms::calls;
+use forms::calls::Family;
+use forms::counts;
+use forms::counts::one_if;
+use forms::forms::Base;
+use forms::forms::Width;
+use forms::size;
+use forms::size::Number;
 use paper::NO_ROOM;
 use paper::UNKNOWN_CALL;
-use size::Number;
 
 // What a conversion answers. `offset` is the number of characters, where the zero byte stands if there is one; `need` is the
 // room that the whole string takes; `free` is the room behind the characters.
@@ -67,7 +68,7 @@ pub fn signed_decimal(value: u32, out: &mut [u8; 11]) -> usize
     ensures buffer { λ r. ⌜ now (out .exit) ≡ decimalOf value ++ drop (length (decimalOf value)) (now (out .entry)) ⌝ }
 {
     let number = size::number_in(true, Width::Word, value);
-    let count = digits::count_decimal(number.magnitude);
+    let count = counts::count_decimal(number.magnitude);
     let end = characters(number.negative, false, count);
     lay_number(number, Base::Ten, count, false, end, out);
     end
@@ -92,7 +93,7 @@ fn write_decimal(signed: bool, spaced: bool, width: Width, value: u32, buf: &mut
     ensures buffer { λ r. ⌜ now (buf .exit) ≡ bufferIn (known (decimal signed spaced true width)) value (now (buf .entry)) ⌝ }
 {
     let number = size::number_in(signed, width, value);
-    let count = digits::count_decimal(number.magnitude);
+    let count = counts::count_decimal(number.magnitude);
     write_number(number, Base::Ten, count, spaced, true, buf)
 }
 

@@ -15,11 +15,12 @@ use Rattle.paper.specs.Refusals.{no-room, unknown-call, longest}
 use Rattle.paper.proofs.Choice.{clash, either}
 use Rattle.paper.proofs.Laid as Laid
 use Rattle.paper.proofs.Laid.{no-room-for, laid, grows-by}
-use Rattle.numbers.specs.Strings.{Form, used, string}
-use Rattle.numbers.specs.Calls.{unknown, known, described, answerOf, convertedBy, convertedAnswer}
+use Rattle.forms.specs.Strings.{Form, used, string}
+use Rattle.forms.specs.Calls.{unknown, known, described}
+use Rattle.forms.specs.declared.forms.Base.{Base}
+use Rattle.forms.specs.declared.forms.Base.the-variants.{Two, Ten, Sixteen}
+use Rattle.numbers.specs.Conversions.{answerOf, convertedBy, convertedAnswer}
 use Rattle.numbers.specs.declared.Converted.{Converted}
-use Rattle.numbers.specs.declared.forms.Base.{Base}
-use Rattle.numbers.specs.declared.forms.Base.the-variants.{Two, Ten, Sixteen}
 use Rattle.numbers.proofs.Bounds.{string-short}
 use Rattle.reader.specs.Reading.{no-limit, reading, valued, readNumber, readPlace, readValue}
 use Rattle.promises.specs.Leads.{lead}

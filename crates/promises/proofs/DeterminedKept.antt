@@ -1,14 +1,22 @@
 -- Every public function beside the six operations has one answer: its contract says it as a function of what is given.
 use mathlib.Core.Path.{_≡_, refl, ap, ap₂, sym, subst, _∙_}
-use mathlib.Core.Bool.{not}
+use mathlib.Core.Bool.{cond, not}
 use mathlib.Core.List.{List, [], _∷_, _++_}
-use Prim.Native.Nat.{ℕ, _+_}
+use Prim.Native.Nat.{ℕ, _+_, _/_, _%_, _^_}
 use denote.Ref.{now}
 use lib.Dec.{eqb}
 use lib.ListN.{length, take, drop, getD}
 use Rattle.paper.specs.Bytes as Bytes
 use Rattle.paper.specs.Traces.{allowed, faultNumber}
-use Rattle.numbers.specs.Calls.{decimalOf, answerOf, bufferOf, convertedBy}
+use Rattle.forms.specs.Digits.{glyph, digitCount}
+use Rattle.forms.specs.Strings.{radix, bits, Form}
+use Rattle.forms.specs.Calls.{Described, unknown, known, described, decimalOf}
+use Rattle.forms.specs.inner.Steps.{formOf, numberIn}
+use Rattle.forms.specs.declared.calls.Family.{Family}
+use Rattle.forms.specs.declared.calls.Family.the-variants as Families
+use Rattle.forms.specs.declared.forms.Base.{Base}
+use Rattle.forms.specs.declared.forms.Base.the-variants.{Two, Ten, Sixteen}
+use Rattle.numbers.specs.Conversions.{answerOf, bufferOf, convertedBy}
 use Rattle.reader.specs.Reading.{reading}
 use Rattle.variables.specs.Names.{pattern}
 use Rattle.variables.specs.Records.{nameByte}
@@ -42,6 +50,28 @@ function-of : {Lifetimes Arguments Answer After Given Seen : Type 0} {Learnt : L
 function-of f is =
     record { one = λ κs κs′ a a′ r r′ after after′ same c c′. is κs a r after c ∙ ap f same ∙ sym (is κs′ a′ r′ after′ c′) }
 
+-- the family of a form, as the code has it
+familyIn : Base → Form → Family
+familyIn Two form = Families.Binary (form .width)
+familyIn Ten form =
+    cond (form .spaced) (cond (form .signed) (Families.SpacedSigned (form .width)) (Families.SpacedUnsigned (form .width)))
+    (cond (form .signed) (Families.Signed (form .width)) (Families.Unsigned (form .width)))
+familyIn Sixteen form = Families.Hex (form .width)
+
+familyBy : Described → Family
+familyBy unknown = Families.NoCall
+familyBy (known form) = familyIn (form .base) form
+
+family-back : (r : Family) → r ≡ familyBy (formOf r)
+unfolding familyIn familyBy
+family-back Families.NoCall = refl
+family-back (Families.Hex width) = refl
+family-back (Families.Binary width) = refl
+family-back (Families.Unsigned width) = refl
+family-back (Families.Signed width) = refl
+family-back (Families.SpacedUnsigned width) = refl
+family-back (Families.SpacedSigned width) = refl
+
 -- an operator behind an operand, as the code has it, by the definitions' own type
 behindBy : Link → Behind
 behindBy (binds operator place next) = Binds operator place next
@@ -61,6 +91,14 @@ determined =
       is-end = function-of (λ (c, _). Bytes.ends c) (λ κs a r after c. c);
       skip-spaces = function-of (λ (text, (start, _)). start + Bytes.spaces (drop start text)) (λ κs a r after c. c);
       fault-number = function-of (λ (fault, _). faultNumber fault) (λ κs a r after c. c);
+      family-of = function-of (λ (call, _). familyBy (described call)) (λ κs a r after c. family-back r ∙ ap familyBy c);
+      count-decimal = function-of (λ (n, _). digitCount 10 n) (λ κs a r after c. c .0);
+      one-if = function-of (λ (present, _). cond present 1 0) (λ κs a r after c. c .0);
+      base-shrink = function-of (λ (base, (n, _)). n / radix base) (λ κs a r after c. c);
+      base-last-glyph = function-of (λ (base, (n, _)). glyph (n % radix base)) (λ κs a r after c. c);
+      width-bits = function-of (λ (width, _). bits width) (λ κs a r after c. c);
+      width-low-bits = function-of (λ (width, (value, _)). value % 2 ^ bits width) (λ κs a r after c. c);
+      number-in = function-of (λ (signed, (width, (value, _))). numberIn signed width value) (λ κs a r after c. c);
       signed-decimal =
           function-of (λ (value, (out, _)). (length (decimalOf value), decimalOf value ++ drop (length (decimalOf value)) out))
           (λ κs a r after c. ap₂ (λ r out. (r, out)) (c .0 .0) (c .1));

@@ -7,8 +7,9 @@ use lib.ListN.{length}
 use Rattle.paper.specs.Answers.{in-text, Answer, refusal}
 use Rattle.paper.specs.Refusals.{unknown-call}
 use Rattle.paper.proofs.Laid as Laid
-use Rattle.numbers.specs.Strings.{Form, string}
-use Rattle.numbers.specs.Calls.{Described, unknown, known, described, answerIn, bufferIn, answerOf, bufferOf, convertedAnswer}
+use Rattle.forms.specs.Strings.{Form, string}
+use Rattle.forms.specs.Calls.{Described, unknown, known, described}
+use Rattle.numbers.specs.Conversions.{answerIn, bufferIn, answerOf, bufferOf, convertedAnswer}
 use Rattle.numbers.specs.declared.Converted.{Converted}
 use Rattle.numbers.proofs.PaperNumbers.{converted-kept}
 use Rattle.promises.specs.Allowed.{Converts}

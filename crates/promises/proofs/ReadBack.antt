@@ -13,13 +13,14 @@ use lib.Seq.{getD-append-add, getD-drop}
 use borrow.Author.Tests.{lt-ltb, le-ltb, le-leb, lt-leb, ne-eqb}
 use Rattle.paper.specs.Refusals.{longest}
 use Rattle.paper.specs.Bytes.{space, spaces}
-use Rattle.numbers.specs.Digits.{glyph, digits}
-use Rattle.numbers.specs.Strings.{radix, Form, used, count, string}
-use Rattle.numbers.specs.declared.forms.Base.{Base}
-use Rattle.numbers.specs.declared.forms.Base.the-variants.{Two, Ten, Sixteen}
+use Rattle.forms.specs.Digits.{glyph, digits}
+use Rattle.forms.specs.Strings.{radix, Form, used, count, string}
+use Rattle.forms.specs.declared.forms.Base.{Base}
+use Rattle.forms.specs.declared.forms.Base.the-variants.{Two, Ten, Sixteen}
 use Rattle.paper.proofs.Choice.{skip, other, not-below}
 use Rattle.paper.proofs.Runs.{run-none}
-use Rattle.numbers.proofs.Laws.{below-power, digits-length}
+use Rattle.forms.proofs.Laws.{below-power}
+use Rattle.numbers.proofs.Laws.{digits-length}
 use Rattle.numbers.proofs.Bounds.{used-below, span-word, count-holds, count-from}
 use Rattle.reader.specs.Reading.{digit, run, worth, goesOn, judged, no-limit, based, inBase, marked, numbered, reading, valued}
 use Rattle.promises.specs.Leads.{lead}

@@ -12,11 +12,12 @@ use Rattle.paper.specs.Layings.{terminator, laying, laidIn}
 use Rattle.paper.specs.Refusals.{bad-base, too-deep, allowance-spent, bad-expression}
 use Rattle.paper.specs.Texts.{bytes}
 use Rattle.paper.specs.Traces as Traces
-use Rattle.numbers.specs.Digits.{digits, enough}
-use Rattle.numbers.specs.Strings.{Form, string}
-use Rattle.numbers.specs.Calls.{hex, decimal, known, ranged, described, answerOf, convertedBy, convertedAnswer}
+use Rattle.forms.specs.Digits.{digits, enough}
+use Rattle.forms.specs.Strings.{Form, string}
+use Rattle.forms.specs.Calls.{hex, decimal, known, ranged, described}
+use Rattle.forms.specs.declared.forms.Width.the-variants.{Byte, ThreeBytes, Word}
+use Rattle.numbers.specs.Conversions.{answerOf, convertedBy, convertedAnswer}
 use Rattle.numbers.specs.declared.Converted.{Converted}
-use Rattle.numbers.specs.declared.forms.Width.the-variants.{Byte, ThreeBytes, Word}
 use Rattle.reader.specs.Reading.{digit, judged, inBase, numbered, reading, readNumber, readPlace, readValue}
 use Rattle.variables.specs.Records.{headed, sized, fitting, nameAt, valueAt, nameByte, small, sameName, entryAt, entries, sought}
 use Rattle.variables.specs.Tables.{sound, scanned, checked}

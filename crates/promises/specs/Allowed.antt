@@ -4,7 +4,7 @@ use mathlib.Core.Bool.{Bool}
 use mathlib.Core.List.{List}
 use Prim.Native.Nat.{ℕ}
 use lib.ListN.{length}
-use Rattle.numbers.specs.Calls.{answerOf, bufferOf, convertedBy}
+use Rattle.numbers.specs.Conversions.{answerOf, bufferOf, convertedBy}
 use Rattle.numbers.specs.declared.Converted.{Converted}
 use Rattle.reader.specs.Reading.{reading}
 use Rattle.reader.specs.declared.Reading.{Reading}

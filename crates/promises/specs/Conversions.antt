@@ -8,8 +8,9 @@ use lib.ListN.{length, take, drop}
 use Rattle.paper.specs.Answers.{in-text, Answer, refusal, GrownWhole}
 use Rattle.paper.specs.Layings.{terminator, roomFor}
 use Rattle.paper.specs.Refusals.{no-room, unknown-call}
-use Rattle.numbers.specs.Strings.{Form, used, string}
-use Rattle.numbers.specs.Calls.{unknown, known, described, convertedAnswer}
+use Rattle.forms.specs.Strings.{Form, used, string}
+use Rattle.forms.specs.Calls.{unknown, known, described}
+use Rattle.numbers.specs.Conversions.{convertedAnswer}
 use Rattle.numbers.specs.declared.Converted.{Converted}
 use Rattle.reader.specs.Reading.{no-limit, readNumber, readPlace, readValue}
 use Rattle.reader.specs.declared.Reading.{Reading}

@@ -10,6 +10,14 @@ use Rattle.paper.proofs.bytes.among.Reads as among
 use Rattle.paper.proofs.bytes.is_end.Reads as is-end
 use Rattle.paper.proofs.bytes.skip_spaces.Reads as skip-spaces
 use Rattle.paper.proofs.faults.Fault.number.Reads as fault-number
+use Rattle.forms.proofs.calls.family_of.Reads as family-of
+use Rattle.forms.proofs.counts.count_decimal.Reads as count-decimal
+use Rattle.forms.proofs.counts.one_if.Reads as one-if
+use Rattle.forms.proofs.forms.Base.shrink.Reads as base-shrink
+use Rattle.forms.proofs.forms.Base.last_glyph.Reads as base-last-glyph
+use Rattle.forms.proofs.forms.Width.bits.Reads as width-bits
+use Rattle.forms.proofs.forms.Width.low_bits.Reads as width-low-bits
+use Rattle.forms.proofs.size.number_in.Reads as number-in
 use Rattle.numbers.proofs.signed_decimal.Reads as signed-decimal
 use Rattle.variables.proofs.key_table.Reads as key-table
 use Rattle.variables.proofs.value_of.Reads as value-of
@@ -82,6 +90,15 @@ pub record Determined : Type 0 where
   pub is-end : One is-end.Learnt rest answer-alone
   pub skip-spaces : One skip-spaces.Learnt (lent rest) answer-alone
   pub fault-number : One fault-number.Learnt rest answer-alone
+  -- forms
+  pub family-of : One family-of.Learnt rest answer-alone
+  pub count-decimal : One count-decimal.Learnt rest answer-alone
+  pub one-if : One one-if.Learnt rest answer-alone
+  pub base-shrink : One base-shrink.Learnt rest answer-alone
+  pub base-last-glyph : One base-last-glyph.Learnt rest answer-alone
+  pub width-bits : One width-bits.Learnt rest answer-alone
+  pub width-low-bits : One width-low-bits.Learnt rest answer-alone
+  pub number-in : One number-in.Learnt rest answer-alone
   -- numbers
   pub signed-decimal : One signed-decimal.Learnt (plain (lent rest)) (answer-and (λ (value, (out, _)). out))
   -- variables: the answer of `value_of` is a part of the table, of which the bytes are seen

@@ -8,7 +8,7 @@ use lib.IntN.{ℤ, pos, negℤ}
 use lib.ListN.{length, drop}
 use Rattle.paper.specs.Answers.{in-text, refusal}
 use Rattle.paper.specs.Refusals.{no-room, bad-base, too-deep, allowance-spent, bad-expression}
-use Rattle.numbers.specs.Calls.{convertedAnswer}
+use Rattle.numbers.specs.Conversions.{convertedAnswer}
 use Rattle.numbers.specs.declared.Converted.{Converted}
 use Rattle.reader.specs.Reading.{no-limit, readNumber, readPlace, readValue}
 use Rattle.reader.specs.declared.Reading.{Reading}

@@ -21,7 +21,7 @@ use Rattle.gs.specs.declared.Translated.{Translated}
 use Rattle.symbols.specs.declared.flags.Flags.{Flags}
 use Rattle.expressions.proofs.evaluate.Reads as evaluate
 use Rattle.expressions.specs.declared.Evaluated.{Evaluated}
-use Rattle.numbers.specs.Calls.{convertedAnswer}
+use Rattle.numbers.specs.Conversions.{convertedAnswer}
 use Rattle.gs.specs.Translations.{translatedAnswer}
 use Rattle.filter.proofs.answer.Reads as program
 use Rattle.filter.specs.Answers.{answerTo}

@@ -9,7 +9,7 @@ use lib.Seq.{sets}
 use Rattle.paper.specs.Refusals.{too-big}
 use Rattle.paper.specs.Traces.{Trace, faults, gives, asks, spends, bytes, finished, refused, run}
 use Rattle.paper.specs.declared.faults.Fault.the-variants as Faults
-use Rattle.numbers.specs.Calls.{decimalOf}
+use Rattle.forms.specs.Calls.{decimalOf}
 use Rattle.reader.specs.Reading.{reading, no-limit}
 use Rattle.reader.specs.declared.Reading.{Reading}
 use Rattle.reader.specs.declared.Reading.the-variants.{Value, Refused}

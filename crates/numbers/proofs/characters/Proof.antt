@@ -5,7 +5,7 @@ use Prim.Native.Nat.{_+_}
 use native.Mathlib.Omega.{arith}
 use lib.ListN.{length}
 use borrow.Author.Needs.{needs}
-use Rattle.numbers.specs.Strings.{minus}
+use Rattle.forms.specs.Strings.{minus}
 use Rattle.numbers.proofs.characters.Statement.{statement}
 use Rattle.numbers.proofs.characters.Tie as tie
 

@@ -4,11 +4,12 @@ use mathlib.Core.List.{List}
 use Prim.Native.Nat.{ℕ, _/_}
 use lib.ListN.{length}
 use borrow.Author.Needs.{needs}
-use Rattle.numbers.specs.Strings.{Form}
-use Rattle.numbers.specs.Calls.{unknown, known, described, answerIn, bufferIn, answerOf, bufferOf, convertedBy}
-use Rattle.numbers.specs.inner.Steps.{formOf}
+use Rattle.forms.specs.Strings.{Form}
+use Rattle.forms.specs.Calls.{unknown, known, described}
+use Rattle.forms.specs.inner.Steps.{formOf}
+use Rattle.forms.specs.declared.calls.Family.{Family}
+use Rattle.numbers.specs.Conversions.{answerIn, bufferIn, answerOf, bufferOf, convertedBy}
 use Rattle.numbers.specs.declared.Converted.{Converted}
-use Rattle.numbers.specs.declared.calls.Family.{Family}
 use Rattle.numbers.proofs.Bounds.{hex-digits, binary-digits}
 use Rattle.numbers.proofs.convert.Statement.{statement}
 use Rattle.numbers.proofs.convert.Tie as tie

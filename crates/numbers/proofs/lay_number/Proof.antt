@@ -7,10 +7,10 @@ use native.Mathlib.Omega.{arith}
 use lib.ListN.{length, take, drop, set}
 use lib.Seq.{sets}
 use borrow.Author.Needs.{needs}
-use Rattle.numbers.specs.Digits.{digits}
-use Rattle.numbers.specs.Strings.{radix, minus}
+use Rattle.forms.specs.Digits.{digits}
+use Rattle.forms.specs.Strings.{radix, minus}
+use Rattle.forms.specs.declared.size.Number.{Number}
 use Rattle.numbers.specs.inner.Steps.{spreadOf, charactersOf, stringOf}
-use Rattle.numbers.specs.declared.size.Number.{Number}
 use Rattle.numbers.proofs.Laws.{digits-length}
 use Rattle.numbers.proofs.Buffer.{sets-if, signed}
 use Rattle.numbers.proofs.lay_number.Statement.{statement}

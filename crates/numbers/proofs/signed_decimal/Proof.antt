@@ -5,9 +5,9 @@ use mathlib.Core.List.{_++_}
 use native.Mathlib.Omega.{arith}
 use lib.ListN.{length, drop}
 use borrow.Author.Needs.{needs}
-use Rattle.numbers.specs.Calls.{decimal, decimalOf}
+use Rattle.forms.specs.Calls.{decimal, decimalOf}
+use Rattle.forms.specs.declared.forms.Width.the-variants.{Word}
 use Rattle.numbers.specs.inner.Steps.{stringOf}
-use Rattle.numbers.specs.declared.forms.Width.the-variants.{Word}
 use Rattle.numbers.proofs.Laws.{string-length}
 use Rattle.numbers.proofs.Bounds.{decimal-short}
 use Rattle.numbers.proofs.Parts.{string-of}

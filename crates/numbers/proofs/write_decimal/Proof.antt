@@ -1,7 +1,7 @@
 -- `write_decimal` meets its contract: it writes its form's parts.
 use mathlib.Core.Bool.{true}
 use borrow.Author.Needs.{needs}
-use Rattle.numbers.specs.Calls.{decimal}
+use Rattle.forms.specs.Calls.{decimal}
 use Rattle.numbers.proofs.Parts.{converted}
 use Rattle.numbers.proofs.write_decimal.Statement.{statement}
 use Rattle.numbers.proofs.write_decimal.Tie as tie

@@ -2,9 +2,9 @@
 use mathlib.Core.Path.{_≡_}
 use mathlib.Core.Bool.{false}
 use borrow.Author.Needs.{needs}
-use Rattle.numbers.specs.Calls.{fixed}
-use Rattle.numbers.specs.inner.Steps.{numberIn}
-use Rattle.numbers.specs.declared.size.Number.{Number}
+use Rattle.forms.specs.Calls.{fixed}
+use Rattle.forms.specs.inner.Steps.{numberIn}
+use Rattle.forms.specs.declared.size.Number.{Number}
 use Rattle.numbers.proofs.Parts.{converted}
 use Rattle.numbers.proofs.write_fixed.Statement.{statement}
 use Rattle.numbers.proofs.write_fixed.Tie as tie

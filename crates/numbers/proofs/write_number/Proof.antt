@@ -10,8 +10,8 @@ use borrow.Author.Needs.{needs}
 use Rattle.paper.specs.Refusals.{no-room}
 use Rattle.paper.specs.Layings.{terminator, roomFor, laying, laidIn}
 use Rattle.paper.proofs.Choice.{below, not-below}
-use Rattle.numbers.specs.Strings.{radix}
-use Rattle.numbers.specs.Calls.{convertedBy}
+use Rattle.forms.specs.Strings.{radix}
+use Rattle.numbers.specs.Conversions.{convertedBy}
 use Rattle.numbers.specs.inner.Steps.{stringOf}
 use Rattle.numbers.specs.declared.Converted.the-variants.{Written, Refused}
 use Rattle.numbers.proofs.Laws.{string-length}

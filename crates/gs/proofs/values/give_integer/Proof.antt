@@ -8,7 +8,7 @@ use lib.ListN.{length, take, length-append}
 use lib.Seq.{take-append-seam}
 use borrow.Author.Needs.{needs}
 use Rattle.paper.specs.Traces.{asks, spends}
-use Rattle.numbers.specs.Calls.{decimalOf}
+use Rattle.forms.specs.Calls.{decimalOf}
 use Rattle.gs.specs.Readings.{givesAll}
 use Rattle.gs.specs.inner.Steps.{Came}
 use Rattle.gs.proofs.values.give_integer.Statement.{statement}

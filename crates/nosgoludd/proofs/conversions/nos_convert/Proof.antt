@@ -2,7 +2,7 @@
 use mathlib.Core.Path.{_≡_, ap, sym, _∙_}
 use lib.ListN.{length}
 use borrow.Author.Needs.{needs}
-use Rattle.numbers.specs.Calls.{answerOf, convertedAnswer}
+use Rattle.numbers.specs.Conversions.{answerOf, convertedAnswer}
 use Rattle.numbers.specs.declared.Converted.{Converted}
 use Rattle.numbers.proofs.PaperNumbers.{converted-kept}
 use Rattle.nosgoludd.specs.Faces.{answerFace}

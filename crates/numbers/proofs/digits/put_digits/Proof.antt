@@ -10,8 +10,8 @@ use lib.Dec.{eqb}
 use lib.ListN.{length, take-append-drop, take, drop, set, length-append, length-drop}
 use lib.Seq.{sets, length-take-le}
 use borrow.Author.Needs.{needs}
-use Rattle.numbers.specs.Digits.{glyph, gap, digits}
-use Rattle.numbers.specs.Strings.{radix}
+use Rattle.forms.specs.Digits.{glyph, gap, digits}
+use Rattle.forms.specs.Strings.{radix}
 use Rattle.numbers.specs.inner.Steps.{spreadOf, gapBefore}
 use Rattle.numbers.proofs.Laws.{groupOf, spread-zero, spread-suc, spread-mono, digits-length, gap-by-group, group-next}
 use Rattle.numbers.proofs.Buffer.{prepend}
