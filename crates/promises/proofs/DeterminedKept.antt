@@ -11,7 +11,6 @@ use Rattle.paper.specs.Traces.{allowed, faultNumber}
 use Rattle.numbers.specs.Calls.{decimalOf, answerOf, bufferOf, convertedBy}
 use Rattle.reader.specs.Reading.{reading}
 use Rattle.variables.specs.Names.{pattern}
-use Rattle.variables.specs.Records.{nameByte}
 use Rattle.variables.specs.Tables.{kindNumber, checked, lookedUp}
 use Rattle.variables.specs.inner.Keys.{KeyedAs, matchAs, soughtBy}
 use Rattle.variables.proofs.KeysFind.{one-keyed}
@@ -56,6 +55,7 @@ determined =
       byte = function-of (λ (text, (at, _)). getD text at 0) (λ κs a r after c. c);
       among = function-of (λ (low, (high, (c, _))). Bytes.among low high c) (λ κs a r after c. c);
       is-end = function-of (λ (c, _). Bytes.ends c) (λ κs a r after c. c);
+      is-name-byte = function-of (λ (c, _). Bytes.nameByte c) (λ κs a r after c. c);
       skip-spaces = function-of (λ (text, (start, _)). start + Bytes.spaces (drop start text)) (λ κs a r after c. c);
       fault-number = function-of (λ (fault, _). faultNumber fault) (λ κs a r after c. c);
       signed-decimal =
@@ -67,7 +67,6 @@ determined =
       find = function-of (λ (table, (keys, (name, _))). matchAs table (soughtBy table keys name)) (λ κs a r after c. c);
       pattern-of = function-of (λ (value, _). pattern value) (λ κs a r after c. c);
       kind-number = function-of (λ (kind, _). kindNumber kind) (λ κs a r after c. c);
-      is-name-byte = function-of (λ (c, _). nameByte c) (λ κs a r after c. c);
       symbol-at = function-of (λ (text, (flags, (mode, (at, _)))). symbolAt text (flags .0) mode at) (λ κs a r after c. c);
       open-text =
           function-of (λ (text, (flags, _)). record { at = firstAt text (flags .0); mode = modeOf text (flags .0) })

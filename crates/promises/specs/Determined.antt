@@ -8,6 +8,7 @@ use Rattle.paper.proofs.allowance.cap.Reads as cap
 use Rattle.paper.proofs.bytes.byte.Reads as byte
 use Rattle.paper.proofs.bytes.among.Reads as among
 use Rattle.paper.proofs.bytes.is_end.Reads as is-end
+use Rattle.paper.proofs.bytes.is_name_byte.Reads as is-name-byte
 use Rattle.paper.proofs.bytes.skip_spaces.Reads as skip-spaces
 use Rattle.paper.proofs.faults.Fault.number.Reads as fault-number
 use Rattle.numbers.proofs.signed_decimal.Reads as signed-decimal
@@ -16,7 +17,6 @@ use Rattle.variables.proofs.value_of.Reads as value-of
 use Rattle.variables.proofs.keys.find.Reads as find
 use Rattle.variables.proofs.integers.pattern_of.Reads as pattern-of
 use Rattle.variables.proofs.kinds.Kind.number.Reads as kind-number
-use Rattle.variables.proofs.names.is_name_byte.Reads as is-name-byte
 use Rattle.symbols.proofs.flags.Flags.of.Reads as flags-of
 use Rattle.symbols.proofs.flags.Flags.none.Reads as flags-none
 use Rattle.symbols.proofs.flags.Flags.has.Reads as flags-has
@@ -76,6 +76,7 @@ pub record Determined : Type 0 where
   pub byte : One byte.Learnt (lent rest) answer-alone
   pub among : One among.Learnt rest answer-alone
   pub is-end : One is-end.Learnt rest answer-alone
+  pub is-name-byte : One is-name-byte.Learnt rest answer-alone
   pub skip-spaces : One skip-spaces.Learnt (lent rest) answer-alone
   pub fault-number : One fault-number.Learnt rest answer-alone
   -- numbers
@@ -86,7 +87,6 @@ pub record Determined : Type 0 where
   pub find : One find.Learnt (lent (lent (lent rest))) answer-alone
   pub pattern-of : One pattern-of.Learnt (lent rest) answer-alone
   pub kind-number : One kind-number.Learnt rest answer-alone
-  pub is-name-byte : One is-name-byte.Learnt rest answer-alone
   -- symbols
   pub symbol-at : One symbol-at.Learnt (lent rest) answer-alone
   pub open-text : One open-text.Learnt (lent rest) answer-alone

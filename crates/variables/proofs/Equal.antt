@@ -10,7 +10,8 @@ use borrow.Author.Tests.{eq-eqb, ne-eqb, eqb-true}
 use lib.Dec.{eqb}
 use lib.ListN.{length, getD, drop, length-drop, drop-of-length-le}
 use lib.Seq.{drop-cons}
-use Rattle.variables.specs.Records.{nameByte, allNameBytes, small, sameBytes, sameName}
+use Rattle.paper.specs.Bytes.{nameByte}
+use Rattle.variables.specs.Records.{allNameBytes, small, sameBytes, sameName}
 
 -- one byte more
 pub allowed-more :

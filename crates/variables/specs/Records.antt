@@ -5,6 +5,7 @@ use mathlib.Core.List.{List, [], _∷_, _++_, map}
 use Prim.Native.Nat.{ℕ, zero, suc, _+_}
 use lib.Dec.{ltb, leb, eqb}
 use lib.ListN.{length, getD, take, drop}
+use Rattle.paper.specs.Bytes.{nameByte}
 
 abbrev pub string-kind : ℕ
 string-kind = 0
@@ -50,10 +51,6 @@ valueAt table place = take (valueLength table place) (drop (valueStart table pla
 
 unfoldable pub entryAt : List ℕ → ℕ → Entry
 entryAt table place = record { place = place; kind = kindAt table place; name = nameAt table place; value = valueAt table place }
-
--- a byte that a name may have: 33 to 126, and not 34, 60 or 62
-unfoldable pub nameByte : ℕ → Bool
-nameByte c = leb 33 c && (leb c 126 && (not (eqb c 34) && (not (eqb c 60) && not (eqb c 62))))
 
 abbrev pub allNameBytes : List ℕ → Bool
 allNameBytes [] = true

@@ -4,26 +4,8 @@ ghost use mathlib.Core.Bool.{cond};
 ghost use Prim.Native.Nat.{_<_, _≤_, min};
 ghost use lib.Dec.{eqb};
 ghost use Rattle.variables.specs.inner.Keys.{keyOf};
-ghost use Rattle.variables.specs.Records.{nameByte, allNameBytes, small, sameName};
-
-// A byte that a name may have. The quote, "<" and ">" mean something in a text.
-pub fn is_name_byte(c: u8) -> bool
-    ensures { λ r. ⌜ r ≡ nameByte c ⌝ }
-{
-    if c < 33 {
-        return false;
-    }
-    if 126 < c {
-        return false;
-    }
-    if c == b'"' {
-        return false;
-    }
-    if c == b'<' {
-        return false;
-    }
-    c != b'>'
-}
+ghost use Rattle.variables.specs.Records.{allNameBytes, small, sameName};
+use paper::bytes::is_name_byte;
 
 pub(crate) fn all_name_bytes(name: &[u8]) -> bool
     ensures { λ r. ⌜ r ≡ allNameBytes (now (name .entry)) ⌝ }

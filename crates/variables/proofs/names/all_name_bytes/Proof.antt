@@ -7,7 +7,8 @@ use Prim.Native.Nat.{ℕ, _+_, _-_, _<_}
 use native.Mathlib.Omega.{arith}
 use borrow.Author.Needs.{needs}
 use lib.ListN.{length, getD, drop, drop-of-length-le}
-use Rattle.variables.specs.Records.{nameByte, allNameBytes}
+use Rattle.paper.specs.Bytes.{nameByte}
+use Rattle.variables.specs.Records.{allNameBytes}
 use Rattle.variables.proofs.Equal.{allowed-more}
 use Rattle.variables.proofs.names.all_name_bytes.Statement.{statement}
 use Rattle.variables.proofs.names.all_name_bytes.Tie as tie

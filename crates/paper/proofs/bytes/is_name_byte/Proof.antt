@@ -1,8 +1,8 @@
 -- `is_name_byte` meets its contract: its tests are the definition's.
 use borrow.Author.Tests.{le-leb, lt-leb, eq-eqb, ne-eqb}
-use Rattle.variables.specs.Records.{nameByte}
-use Rattle.variables.proofs.names.is_name_byte.Statement.{statement}
-use Rattle.variables.proofs.names.is_name_byte.Tie as tie
+use Rattle.paper.specs.Bytes.{nameByte}
+use Rattle.paper.proofs.bytes.is_name_byte.Statement.{statement}
+use Rattle.paper.proofs.bytes.is_name_byte.Tie as tie
 
 returns : tie.Need-returns
 unfolding nameByte
