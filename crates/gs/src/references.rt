@@ -9,9 +9,9 @@ ghost use Rattle.paper.specs.Refusals.{«too-big»};
 ghost use Rattle.paper.specs.Traces.{asks, spends};
 ghost use Rattle.numbers.specs.Calls.{decimalOf};
 ghost use Rattle.reader.specs.Reading.{readNumber};
+ghost use Rattle.records.specs.Kinds.{pattern};
 ghost use Rattle.variables.specs.Tables.{soughtIn};
 ghost use Rattle.variables.specs.inner.Keys.{Keys, matchAs};
-ghost use Rattle.variables.specs.Names.{pattern};
 ghost use Rattle.gs.specs.Readings.{givesAll};
 ghost use Rattle.gs.specs.inner.Steps.{Came, kinded, matchedAs, referredIn};
 ghost use Rattle.gs.specs.declared.steps.Referred.the-variants as Referred;
@@ -23,11 +23,11 @@ use paper::ALLOWANCE_SPENT;
 use paper::TOO_BIG;
 use reader::NO_LIMIT;
 use reader::Reading;
+use records::Variable;
+use records::integers::pattern_of;
+use records::kinds::Kind;
 use variables::Match;
-use variables::Variable;
-use variables::integers::pattern_of;
 use variables::keys::find;
-use variables::kinds::Kind;
 
 fn by_kind(kind: Kind, v: Variable) -> Referred
     ensures { λ r. ⌜ r ≡ kinded kind v ⌝ }

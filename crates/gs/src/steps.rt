@@ -1,5 +1,5 @@
 // What a reference stands for, and how far a reference and a text come.
-use variables::Variable;
+use records::Variable;
 
 // What a reference's content stands for.
 pub enum Referred {

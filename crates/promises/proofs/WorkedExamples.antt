@@ -19,8 +19,8 @@ use Rattle.numbers.specs.Calls.{hex, decimal, known, ranged, described, answerO
 use Rattle.numbers.specs.declared.Converted.{Converted}
 use Rattle.numbers.specs.declared.forms.Width.the-variants.{Byte, ThreeBytes, Word}
 use Rattle.reader.specs.Reading.{digit, judged, inBase, numbered, reading, readNumber, readPlace, readValue}
-use Rattle.variables.specs.Records.{headed, sized, fitting, nameAt, valueAt, small, sameName, entryAt, entries, sought}
-use Rattle.variables.specs.Tables.{sound, scanned, checked}
+use Rattle.records.specs.Records.{headed, sized, fitting, nameAt, valueAt, small, sameName, entryAt}
+use Rattle.variables.specs.Tables.{entries, sought, sound, scanned, checked}
 use Rattle.variables.specs.Names.{meant}
 use Rattle.symbols.specs.Symbols.{symbolAt, active, barred, code, coded, punctuation, toppedCode, toppedSymbol, referred, closed, quotedOther, firstAt, modeOf}
 use Rattle.gs.specs.Readings.{nameGives, contentGives, symbolGives, symbolsFrom, wholeText, expands}

@@ -9,7 +9,7 @@ use denote.Ref.{now}
 use Rattle.variables.specs.Names.{namesOf}
 use Rattle.gs.specs.Readings.{expands, wholeText}
 use Rattle.gs.specs.inner.Steps.{Came, Read, pieceOf, lengthIn, referredIn, partOf}
-use Rattle.variables.specs.declared.Variable.{Variable}
+use Rattle.records.specs.declared.Variable.{Variable}
 use Rattle.gs.proofs.Pieces.{value-small}
 use Rattle.gs.proofs.PlainRuns.{at-run}
 use Rattle.symbols.proofs.Places.{Stands, quoteOf, symbol-stands}
