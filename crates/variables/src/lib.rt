@@ -80,7 +80,8 @@ fn check(table: &[u8], keys: &mut [u32]) -> Checked
     scan(table, keys)
 }
 
-// The records one behind the other, up to the first bad one.
+// The records one behind the other, up to the first bad one. The next place is cast to a `u32` and back so that the compiler knows that
+// every place is one, and keeps one register for `place` and `at`.
 fn scan(table: &[u8], keys: &mut [u32]) -> Checked
     requires { ⌜ (length (now table) ≤ 65535) × (length (now keys) ≡ most) ⌝ }
     ensures answer { λ r. ⌜ r ≡ scan (now (table .entry)) ⌝ }
@@ -95,7 +96,8 @@ fn scan(table: &[u8], keys: &mut [u32]) -> Checked
         let at = place as u32;
         if is_sound(table, &keys[0..count], at) {
             keys[count] = line_at(table, at);
-            place = records::next_place(table, at);
+            let next = records::next_place(table, at) as u32;
+            place = next as usize;
             count += 1;
         } else {
             return bad_table(BAD_TABLE, place);

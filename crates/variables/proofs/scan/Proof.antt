@@ -94,6 +94,11 @@ mul-keys c = omega arith
 slice-write-keys : tie.Need-slice-write-keys Inv-loop μ-loop
 slice-write-keys c = omega arith
 
+cast-next : tie.Need-cast-next Inv-loop μ-loop
+cast-next c =
+    let sound-here = sym (c .before .before .before .is-sound .ensures) ∙ c .before .before .if2 .taken in
+    omega (arith, next-inside _ _ sound-here)
+
 add-count : tie.Need-add-count Inv-loop μ-loop
 add-count c = omega arith
 
@@ -159,6 +164,8 @@ scan-spec =
     mul-keys
     slice-write-keys
     (λ c κs. search needs)
+    cast-next
+    (λ c. search needs)
     add-count
     loop-less
     loop-again
