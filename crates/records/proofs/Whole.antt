@@ -1,7 +1,7 @@
--- A whole record: one of the right shape. Its parts are inside the slice, and what is handed out as its value is its value.
+-- A record of the right shape is whole: what the tests of its shape say of its parts. And what is handed out as a record's value.
 use mathlib.Core.Bool.{Bool, true, _&&_, and-eq-true-iff}
 use mathlib.Core.List.{List}
-use mathlib.Core.Path.{_≡_, refl, ap, sym, _∙_}
+use mathlib.Core.Path.{_≡_, refl, ap, _∙_}
 use Prim.Native.Nat.{ℕ, _+_, _≤_}
 use native.Mathlib.Omega.{arith}
 use borrow.Author.Tests.{leb-true, eqb-true, eq-eqb}
