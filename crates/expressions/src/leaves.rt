@@ -13,10 +13,10 @@ use paper::NOT_AN_INTEGER;
 use paper::UNKNOWN_NAME;
 use parts::Account;
 use parts::Part;
+use records::integers::pattern_of;
+use records::kinds::Kind;
 use variables::Match;
-use variables::integers::pattern_of;
 use variables::keys::find;
-use variables::kinds::Kind;
 
 fn refused(number: u8, place: usize, next: usize) -> Part
     ensures { λ r. ⌜ r ≡ Part.Refused number place next ⌝ }

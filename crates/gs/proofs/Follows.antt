@@ -5,7 +5,8 @@ use Prim.Native.Nat.{ℕ, suc, _+_, _-_, _≤_}
 use native.Mathlib.Omega.{arith}
 use lib.ListN.{length}
 use Rattle.paper.specs.Traces.{asks, spends, bytes, run, onward}
-use Rattle.variables.specs.Names.{Meaning, pattern}
+use Rattle.records.specs.Kinds.{pattern}
+use Rattle.variables.specs.Names.{Meaning}
 use Rattle.forms.specs.Calls.{decimalOf}
 use Rattle.gs.specs.Readings.{Expand, givesAll, wholeText, expands}
 use Rattle.gs.specs.inner.Steps.{Laid, Came, came-going, came-refused, Read, read-ended, read-refused, partOf, pieceOf, progressOf}
@@ -14,7 +15,7 @@ use Rattle.references.specs.declared.Referred.the-variants.{Number, TooBig, Unk
 use Rattle.gs.specs.declared.steps.Progress.{Progress}
 use Rattle.gs.specs.declared.steps.Progress.the-variants.{Going, Refused}
 use Rattle.gs.specs.declared.steps.Expanded.{Expanded}
-use Rattle.variables.specs.declared.Variable.{Variable}
+use Rattle.records.specs.declared.Variable.{Variable}
 
 module _ (table : List ℕ) (referred : Referred) (name : List ℕ) (left place to : ℕ) (out : List ℕ) where
   module _ (expand : Expand) where

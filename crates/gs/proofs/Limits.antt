@@ -27,14 +27,15 @@ use Rattle.gs.specs.declared.Translated.{Translated}
 use Rattle.symbols.specs.declared.forms.Mode.{Mode}
 use Rattle.symbols.specs.declared.forms.Symbol.{Symbol}
 use Rattle.symbols.specs.declared.forms.Symbol.the-variants.{End, Byte, Reference as Names, Faulty}
-use Rattle.variables.specs.Records.{Sought, absent, present, Entry, valueLength, valueStart, valueAt, entryAt}
-use Rattle.variables.specs.Tables.{checked, soughtIn, kindOf}
+use Rattle.records.specs.Records.{Entry, valueLength, valueStart, valueAt, entryAt}
+use Rattle.records.specs.Kinds.{kindOf}
+use Rattle.records.specs.declared.kinds.Kind.{Kind}
+use Rattle.records.specs.declared.kinds.Kind.the-variants.{Text, Integer, Macro}
+use Rattle.variables.specs.Tables.{Sought, absent, present, checked, soughtIn}
 use Rattle.variables.specs.Names.{Meaning, unknown, string-of, integer-of, macro-of, valueAs, meant, inReading, namesOf}
 use Rattle.variables.specs.Judgements.{judgedBy}
 use Rattle.variables.specs.declared.Checked.{Checked}
 use Rattle.variables.specs.declared.Checked.the-variants.{Good, BadTable}
-use Rattle.variables.specs.declared.kinds.Kind.{Kind}
-use Rattle.variables.specs.declared.kinds.Kind.the-variants.{Text, Integer, Macro}
 use Rattle.variables.proofs.Bounds.{Bounded, checked-bounded}
 use Rattle.variables.proofs.Own.{Own, sought-own}
 use Rattle.symbols.proofs.Places.{Stands, quoteOf, symbol-stands, first-stands}

@@ -16,14 +16,15 @@ use Rattle.paper.proofs.Choice.{either}
 use Rattle.reader.specs.Reading.{reading, no-limit}
 use Rattle.reader.specs.declared.Reading.{Reading}
 use Rattle.reader.specs.declared.Reading.the-variants.{Value, Refused}
-use Rattle.variables.specs.Records.{Sought, absent, present}
-use Rattle.variables.specs.Tables.{kindOf, soughtIn, variableAt}
-use Rattle.variables.specs.Names.{pattern, valueAs, meant, inReading, namesOf}
+use Rattle.records.specs.Kinds.{kindOf, variableAt, pattern}
+use Rattle.records.specs.declared.Variable.{Variable}
+use Rattle.records.specs.declared.kinds.Kind.{Kind}
+use Rattle.records.specs.declared.kinds.Kind.the-variants.{Text, Integer, Macro}
+use Rattle.records.proofs.Whole.{own-value}
+use Rattle.variables.specs.Tables.{Sought, absent, present, soughtIn}
+use Rattle.variables.specs.Names.{valueAs, meant, inReading, namesOf}
 use Rattle.variables.specs.inner.Keys.{matchAs}
-use Rattle.variables.specs.declared.Variable.{Variable}
-use Rattle.variables.specs.declared.kinds.Kind.{Kind}
-use Rattle.variables.specs.declared.kinds.Kind.the-variants.{Text, Integer, Macro}
-use Rattle.variables.proofs.Own.{Own, sought-own, own-value}
+use Rattle.variables.proofs.Own.{Own, sought-own}
 use Rattle.forms.specs.Calls.{decimalOf}
 use Rattle.gs.specs.Readings.{Expand, givesAll, nameGives, contentGives}
 use Rattle.references.specs.References.{kinded, matchedAs, referredAs, referredIn}

@@ -4,14 +4,14 @@ ghost use Prim.Native.Nat.{ℕ, _≤_, _^_};
 ghost use lib.ListN.{length};
 ghost use Rattle.paper.specs.Traces.{asks, spends};
 ghost use Rattle.forms.specs.Calls.{decimalOf};
-ghost use Rattle.variables.specs.Names.{pattern};
+ghost use Rattle.records.specs.Kinds.{pattern};
 ghost use Rattle.gs.specs.Readings.{givesAll};
 ghost use Rattle.gs.specs.inner.Steps.{Came};
 use crate::steps::Progress;
 use numbers::signed_decimal;
 use paper::ALLOWANCE_SPENT;
+use records::integers::pattern_of;
 use runs::output;
-use variables::integers::pattern_of;
 
 // Up to 255 bytes for one look-up.
 pub(crate) fn give(given: &[u8], left: u32, place: usize, to: usize, out: &mut [u8]) -> Progress

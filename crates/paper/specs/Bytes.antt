@@ -1,6 +1,6 @@
--- The bytes of a text: one within bounds, runs of bytes that pass a test, spaces, and where a text ends. Past the slice's end stands a zero, which ends a text as the
--- slice's end does.
-use mathlib.Core.Bool.{Bool, cond, _&&_, _||_}
+-- The bytes of a text: one within bounds, runs of bytes that pass a test, spaces, where a text ends, and those of a name. Past the
+-- slice's end stands a zero, which ends a text as the slice's end does.
+use mathlib.Core.Bool.{Bool, cond, not, _&&_, _||_}
 use mathlib.Core.List.{List, [], _∷_}
 use Prim.Native.Nat.{ℕ, suc}
 use lib.Dec.{leb, eqb}
@@ -23,3 +23,7 @@ spaces text = runOf space text
 -- 0, 10 and 13 end a text
 abbrev pub ends : ℕ → Bool
 ends c = eqb c 0 || (eqb c 10 || eqb c 13)
+
+-- a byte that a name may have: 33 to 126, and not 34, 60 or 62
+unfoldable pub nameByte : ℕ → Bool
+nameByte c = leb 33 c && (leb c 126 && (not (eqb c 34) && (not (eqb c 60) && not (eqb c 62))))

@@ -2,7 +2,7 @@
 ghost use mathlib.Core.Path.{_≡_};
 ghost use Prim.Native.Nat.{_+_};
 ghost use lib.ListN.{getD, drop};
-ghost use Rattle.paper.specs.Bytes.{among, spaces, ends};
+ghost use Rattle.paper.specs.Bytes.{among, spaces, ends, nameByte};
 
 // The byte at a place, 0 past the slice's end.
 pub fn byte(text: &[u8], at: usize) -> u8
@@ -21,6 +21,25 @@ pub fn is_end(c: u8) -> bool
     ensures { λ r. ⌜ r ≡ ends c ⌝ }
 {
     c == 0 || (c == 10 || c == 13)
+}
+
+// A byte that a name may have. The quote, "<" and ">" mean something in a text.
+pub fn is_name_byte(c: u8) -> bool
+    ensures { λ r. ⌜ r ≡ nameByte c ⌝ }
+{
+    if c < 33 {
+        return false;
+    }
+    if 126 < c {
+        return false;
+    }
+    if c == b'"' {
+        return false;
+    }
+    if c == b'<' {
+        return false;
+    }
+    c != b'>'
 }
 
 // The first place from `start` on whose byte is no space.

@@ -18,9 +18,10 @@ use Rattle.forms.specs.declared.forms.Base.{Base}
 use Rattle.forms.specs.declared.forms.Base.the-variants.{Two, Ten, Sixteen}
 use Rattle.numbers.specs.Conversions.{answerOf, bufferOf, convertedBy}
 use Rattle.reader.specs.Reading.{reading}
-use Rattle.variables.specs.Names.{pattern}
-use Rattle.variables.specs.Records.{nameByte}
-use Rattle.variables.specs.Tables.{kindNumber, checked, lookedUp}
+use Rattle.records.specs.Records as Records
+use Rattle.records.specs.Kinds.{kindNumber, pattern, variableAt}
+use Rattle.records.specs.inner.Keys.{keyOf}
+use Rattle.variables.specs.Tables.{checked, lookedUp}
 use Rattle.variables.specs.inner.Keys.{KeyedAs, matchAs, soughtBy}
 use Rattle.variables.proofs.KeysFind.{one-keyed}
 use Rattle.symbols.specs.Flags.{has}
@@ -89,6 +90,7 @@ determined =
       byte = function-of (λ (text, (at, _)). getD text at 0) (λ κs a r after c. c);
       among = function-of (λ (low, (high, (c, _))). Bytes.among low high c) (λ κs a r after c. c);
       is-end = function-of (λ (c, _). Bytes.ends c) (λ κs a r after c. c);
+      is-name-byte = function-of (λ (c, _). Bytes.nameByte c) (λ κs a r after c. c);
       skip-spaces = function-of (λ (text, (start, _)). start + Bytes.spaces (drop start text)) (λ κs a r after c. c);
       fault-number = function-of (λ (fault, _). faultNumber fault) (λ κs a r after c. c);
       family-of = function-of (λ (call, _). familyBy (described call)) (λ κs a r after c. family-back r ∙ ap familyBy c);
@@ -102,13 +104,19 @@ determined =
       signed-decimal =
           function-of (λ (value, (out, _)). (length (decimalOf value), decimalOf value ++ drop (length (decimalOf value)) out))
           (λ κs a r after c. ap₂ (λ r out. (r, out)) (c .0 .0) (c .1));
+      part = function-of (λ (table, (start, (size, _))). take size (drop start table)) (λ κs a r after c. c);
+      name-at = function-of (λ (table, (place, _)). Records.nameAt table place) (λ κs a r after c. c);
+      next-place = function-of (λ (table, (place, _)). Records.nextPlace table place) (λ κs a r after c. c);
+      variable-at = function-of (λ (table, (place, _)). variableAt table (Records.entryAt table place)) (λ κs a r after c. c);
+      is-shaped = function-of (λ (table, (place, _)). Records.shaped table place) (λ κs a r after c. c);
+      key-of = function-of (λ (name, _). keyOf name) (λ κs a r after c. c .0);
+      same-name = function-of (λ (name, (other, _)). Records.sameName name other) (λ κs a r after c. c);
+      kind-number = function-of (λ (kind, _). kindNumber kind) (λ κs a r after c. c);
+      pattern-of = function-of (λ (value, _). pattern value) (λ κs a r after c. c);
       key-table =
           record { one = λ κs κs′ a a′ r r′ after after′ same c c′. one-keyed (now (a′ .0)) r r′ (subst (λ g. KeyedAs (g .0) r) same c) c′ };
       value-of = function-of (λ (table, (v, _)). take (v .length) (drop (v .start) table)) (λ κs a r after c. c);
       find = function-of (λ (table, (keys, (name, _))). matchAs table (soughtBy table keys name)) (λ κs a r after c. c);
-      pattern-of = function-of (λ (value, _). pattern value) (λ κs a r after c. c);
-      kind-number = function-of (λ (kind, _). kindNumber kind) (λ κs a r after c. c);
-      is-name-byte = function-of (λ (c, _). nameByte c) (λ κs a r after c. c);
       symbol-at = function-of (λ (text, (flags, (mode, (at, _)))). symbolAt text (flags .0) mode at) (λ κs a r after c. c);
       open-text =
           function-of (λ (text, (flags, _)). record { at = firstAt text (flags .0); mode = modeOf text (flags .0) })

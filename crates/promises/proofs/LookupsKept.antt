@@ -8,15 +8,16 @@ use native.Mathlib.Omega.{arith}
 use lib.ListN.{length}
 use Rattle.paper.specs.Refusals.{unknown-name}
 use Rattle.paper.proofs.Choice.{clash}
-use Rattle.variables.specs.Records.{Entry, sameName, Sought, absent, present}
-use Rattle.variables.specs.Tables.{checked, recordsOf, soughtIn, foundAs, foundIn, lookedUp, checkNumber, foundNumber, foundStart, foundLength}
+use Rattle.records.specs.Records.{Entry, sameName}
+use Rattle.records.proofs.KindLaws.{kind-number}
+use Rattle.records.proofs.Whole.{own-value}
+use Rattle.variables.specs.Tables.{Sought, absent, present, checked, recordsOf, soughtIn, foundAs, foundIn, lookedUp, checkNumber, foundNumber, foundStart, foundLength}
 use Rattle.variables.specs.declared.Checked.{Checked}
 use Rattle.variables.specs.declared.Checked.the-variants.{Good as GoodTable, BadTable}
 use Rattle.variables.specs.declared.Found.{Found}
 use Rattle.variables.proofs.Bounds.{checked-bounded, over-length-exactly, looked-up-bounded}
 use Rattle.variables.proofs.Format.{format}
-use Rattle.variables.proofs.Good.{laid, wholes, value-part}
-use Rattle.variables.proofs.KindLaws.{kind-number}
+use Rattle.variables.proofs.Good.{laid, wholes}
 use Rattle.variables.proofs.Unique.{found, unique, missed, unmet}
 use Rattle.promises.specs.Accepted.{isGood, isKnown}
 use Rattle.promises.specs.Lookups.{OneCheck, OneFound, CheckAccepts, LookUpAccepts, CheckRefusals, LookUpRefusals, OverLength, Records, Good, Names, Finds, Misses, Inside}
@@ -72,7 +73,7 @@ module _ (table name : List ℕ) where
           named = f .1;
           place = refl;
           kind = kind-number (entry .kind) (w .kind);
-          value = value-part w;
+          value = sym (own-value table entry (w .starts));
         }
 
     known-in : (s : Sought) → (foundNumber (foundAs table s) ≡ 0) ↔ (isKnown (foundAs table s) ≡ true)

@@ -8,6 +8,7 @@ use lib.Dec.{lit≤, lit<}
 use lib.IntN.{pos, negℤ}
 use lib.ListN.{length, drop}
 use Rattle.paper.specs.Answers.{Answer}
+use Rattle.paper.specs.Bytes.{nameByte}
 use Rattle.paper.specs.Layings.{terminator, laying, laidIn}
 use Rattle.paper.specs.Refusals.{bad-base, too-deep, allowance-spent, bad-expression}
 use Rattle.paper.specs.Texts.{bytes}
@@ -19,8 +20,8 @@ use Rattle.forms.specs.declared.forms.Width.the-variants.{Byte, ThreeBytes, Wor
 use Rattle.numbers.specs.Conversions.{answerOf, convertedBy, convertedAnswer}
 use Rattle.numbers.specs.declared.Converted.{Converted}
 use Rattle.reader.specs.Reading.{digit, judged, inBase, numbered, reading, readNumber, readPlace, readValue}
-use Rattle.variables.specs.Records.{headed, sized, fitting, nameAt, valueAt, nameByte, small, sameName, entryAt, entries, sought}
-use Rattle.variables.specs.Tables.{sound, scanned, checked}
+use Rattle.records.specs.Records.{headed, sized, fitting, nameAt, valueAt, small, sameName, entryAt}
+use Rattle.variables.specs.Tables.{entries, sought, sound, scanned, checked}
 use Rattle.variables.specs.Names.{meant}
 use Rattle.symbols.specs.Symbols.{symbolAt, active, barred, code, coded, punctuation, toppedCode, toppedSymbol, referred, closed, quotedOther, firstAt, modeOf}
 use Rattle.gs.specs.Readings.{nameGives, contentGives, symbolGives, symbolsFrom, wholeText, expands}

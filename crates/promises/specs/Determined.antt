@@ -8,6 +8,7 @@ use Rattle.paper.proofs.allowance.cap.Reads as cap
 use Rattle.paper.proofs.bytes.byte.Reads as byte
 use Rattle.paper.proofs.bytes.among.Reads as among
 use Rattle.paper.proofs.bytes.is_end.Reads as is-end
+use Rattle.paper.proofs.bytes.is_name_byte.Reads as is-name-byte
 use Rattle.paper.proofs.bytes.skip_spaces.Reads as skip-spaces
 use Rattle.paper.proofs.faults.Fault.number.Reads as fault-number
 use Rattle.forms.proofs.calls.family_of.Reads as family-of
@@ -19,12 +20,18 @@ use Rattle.forms.proofs.forms.Width.bits.Reads as width-bits
 use Rattle.forms.proofs.forms.Width.low_bits.Reads as width-low-bits
 use Rattle.forms.proofs.size.number_in.Reads as number-in
 use Rattle.numbers.proofs.signed_decimal.Reads as signed-decimal
+use Rattle.records.proofs.part.Reads as part
+use Rattle.records.proofs.name_at.Reads as name-at
+use Rattle.records.proofs.next_place.Reads as next-place
+use Rattle.records.proofs.variable_at.Reads as variable-at
+use Rattle.records.proofs.is_shaped.Reads as is-shaped
+use Rattle.records.proofs.names.key_of.Reads as key-of
+use Rattle.records.proofs.names.same_name.Reads as same-name
+use Rattle.records.proofs.kinds.Kind.number.Reads as kind-number
+use Rattle.records.proofs.integers.pattern_of.Reads as pattern-of
 use Rattle.variables.proofs.key_table.Reads as key-table
 use Rattle.variables.proofs.value_of.Reads as value-of
 use Rattle.variables.proofs.keys.find.Reads as find
-use Rattle.variables.proofs.integers.pattern_of.Reads as pattern-of
-use Rattle.variables.proofs.kinds.Kind.number.Reads as kind-number
-use Rattle.variables.proofs.names.is_name_byte.Reads as is-name-byte
 use Rattle.symbols.proofs.flags.Flags.of.Reads as flags-of
 use Rattle.symbols.proofs.flags.Flags.none.Reads as flags-none
 use Rattle.symbols.proofs.flags.Flags.has.Reads as flags-has
@@ -88,6 +95,7 @@ pub record Determined : Type 0 where
   pub byte : One byte.Learnt (lent rest) answer-alone
   pub among : One among.Learnt rest answer-alone
   pub is-end : One is-end.Learnt rest answer-alone
+  pub is-name-byte : One is-name-byte.Learnt rest answer-alone
   pub skip-spaces : One skip-spaces.Learnt (lent rest) answer-alone
   pub fault-number : One fault-number.Learnt rest answer-alone
   -- forms
@@ -101,13 +109,20 @@ pub record Determined : Type 0 where
   pub number-in : One number-in.Learnt rest answer-alone
   -- numbers
   pub signed-decimal : One signed-decimal.Learnt (plain (lent rest)) (answer-and (λ (value, (out, _)). out))
-  -- variables: the answer of `value_of` is a part of the table, of which the bytes are seen
+  -- records: the answers of `part` and `name_at` are parts of the table, of which the bytes are seen
+  pub part : One part.Learnt (lent rest) (λ r after. now r)
+  pub name-at : One name-at.Learnt (lent rest) (λ r after. now r)
+  pub next-place : One next-place.Learnt (lent rest) answer-alone
+  pub variable-at : One variable-at.Learnt (lent rest) answer-alone
+  pub is-shaped : One is-shaped.Learnt (lent rest) answer-alone
+  pub key-of : One key-of.Learnt (lent rest) answer-alone
+  pub same-name : One same-name.Learnt (lent (lent rest)) answer-alone
+  pub kind-number : One kind-number.Learnt rest answer-alone
+  pub pattern-of : One pattern-of.Learnt (lent rest) answer-alone
+  -- variables: the answer of `value_of` is a part of the table too
   pub key-table : One key-table.Learnt (lent rest) answer-alone
   pub value-of : One value-of.Learnt (lent rest) (λ r after. now r)
   pub find : One find.Learnt (lent (lent (lent rest))) answer-alone
-  pub pattern-of : One pattern-of.Learnt (lent rest) answer-alone
-  pub kind-number : One kind-number.Learnt rest answer-alone
-  pub is-name-byte : One is-name-byte.Learnt rest answer-alone
   -- symbols
   pub symbol-at : One symbol-at.Learnt (lent rest) answer-alone
   pub open-text : One open-text.Learnt (lent rest) answer-alone

@@ -6,7 +6,7 @@ use mathlib.Core.Logic.{_↔_}
 use Prim.Native.Nat.{ℕ, _+_, _≤_, _<_}
 use lib.ListN.{length, take, drop}
 use Rattle.paper.specs.Refusals.{unknown-name, over-length, longest}
-use Rattle.variables.specs.Records.{Entry, recordBytes, sameName}
+use Rattle.records.specs.Records.{Entry, recordBytes, sameName}
 use Rattle.variables.specs.Tables.{most, sound, checked, checkNumber, checkCount, foundNumber, foundPlace, foundKind, foundStart, foundLength, checkNumbers, lookUpNumbers, recordsOf}
 use Rattle.variables.specs.declared.Checked.{Checked}
 use Rattle.variables.specs.declared.Found.{Found}

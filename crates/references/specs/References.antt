@@ -7,14 +7,13 @@ use Rattle.paper.specs.Refusals.{too-big}
 use Rattle.reader.specs.Reading.{reading, no-limit}
 use Rattle.reader.specs.declared.Reading.{Reading}
 use Rattle.reader.specs.declared.Reading.the-variants.{Value, Refused}
-use Rattle.variables.specs.Records.{Sought}
-use Rattle.variables.specs.Tables.{soughtIn}
+use Rattle.variables.specs.Tables.{Sought, soughtIn}
 use Rattle.variables.specs.inner.Keys.{soughtBy, matchAs}
 use Rattle.variables.specs.declared.Match.{Match}
 use Rattle.variables.specs.declared.Match.the-variants.{Record, Missing}
-use Rattle.variables.specs.declared.Variable.{Variable}
-use Rattle.variables.specs.declared.kinds.Kind.{Kind}
-use Rattle.variables.specs.declared.kinds.Kind.the-variants as Kinds
+use Rattle.records.specs.declared.Variable.{Variable}
+use Rattle.records.specs.declared.kinds.Kind.{Kind}
+use Rattle.records.specs.declared.kinds.Kind.the-variants as Kinds
 use Rattle.references.specs.declared.Referred.{Referred}
 use Rattle.references.specs.declared.Referred.the-variants.{Number, TooBig, Unknown, Text, Integer, Macro}
 

@@ -10,10 +10,10 @@ ghost use Rattle.references.specs.declared.Referred.the-variants as Refe
 use paper::TOO_BIG;
 use reader::NO_LIMIT;
 use reader::Reading;
+use records::Variable;
+use records::kinds::Kind;
 use variables::Match;
-use variables::Variable;
 use variables::keys::find;
-use variables::kinds::Kind;
 
 // What a reference's content stands for.
 pub enum Referred {

@@ -9,9 +9,8 @@ use borrow.Author.Tests.{ltb-true, eqb-false, not-true, ne-eqb}
 use lib.Dec.{ltb, eqb}
 use lib.ListN.{length, getD, drop}
 use lib.Seq.{drop-cons}
-use Rattle.paper.specs.Bytes.{ends}
+use Rattle.paper.specs.Bytes.{ends, nameByte}
 use Rattle.paper.proofs.Runs.{inside}
-use Rattle.variables.specs.Records.{nameByte}
 use Rattle.symbols.specs.declared.forms.Mode.{Mode}
 use Rattle.symbols.specs.declared.forms.Mode.the-variants.{Plain, Quoted}
 use Rattle.symbols.specs.declared.forms.Symbol.{Symbol}

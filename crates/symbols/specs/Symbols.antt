@@ -5,10 +5,9 @@ use mathlib.Core.List.{List, [], _∷_}
 use Prim.Native.Nat.{ℕ, suc, _+_, _-_}
 use lib.Dec.{ltb, leb, eqb}
 use lib.ListN.{getD, drop}
-use Rattle.paper.specs.Bytes.{spaces, among, ends}
+use Rattle.paper.specs.Bytes.{spaces, among, ends, nameByte}
 use Rattle.paper.specs.declared.faults.Fault.{Fault}
 use Rattle.paper.specs.declared.faults.Fault.the-variants.{BadCode, BadString, BadReference}
-use Rattle.variables.specs.Records.{nameByte}
 use Rattle.symbols.specs.Flags.{spaceEnds, barPlain, quotePlain}
 use Rattle.symbols.specs.declared.forms.Mode.{Mode}
 use Rattle.symbols.specs.declared.forms.Mode.the-variants.{Plain, Quoted}

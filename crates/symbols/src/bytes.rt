@@ -8,7 +8,7 @@ use crate::flags::Flags;
 use crate::forms::Mode;
 use paper::bytes::byte;
 use paper::bytes::is_end;
-use variables::names::is_name_byte;
+use paper::bytes::is_name_byte;
 
 // Whether a byte is itself in every text: most are, and this is the quickest test that finds those.
 pub(crate) fn is_unmarked(c: u8) -> bool

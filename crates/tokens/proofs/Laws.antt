@@ -12,7 +12,7 @@ use lib.Seq.{drop-cons}
 use Rattle.paper.specs.Bytes.{ends}
 use Rattle.paper.proofs.Choice.{either}
 use Rattle.paper.proofs.Runs.{inside}
-use Rattle.variables.specs.Records.{sameBytes}
+use Rattle.records.specs.Records.{sameBytes}
 use Rattle.tokens.specs.declared.Token.{Token}
 use Rattle.tokens.specs.Tokens.{wordByte, wordRun, lexeme}
 

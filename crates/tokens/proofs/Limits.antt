@@ -13,7 +13,7 @@ use Rattle.paper.proofs.Runs.{passed-within}
 use Rattle.reader.specs.Reading.{no-limit, reading}
 use Rattle.reader.specs.declared.Reading.{Reading}
 use Rattle.reader.specs.declared.Reading.the-variants.{Value, Refused}
-use Rattle.variables.specs.Records.{sameBytes}
+use Rattle.records.specs.Records.{sameBytes}
 use Rattle.tokens.specs.Tokens.{Lexeme, letter, wordToken, faultOf, numberBy, single, fromLess, fromGreater, symbolAt, numeral, startingAt, tokenAt}
 use Rattle.tokens.specs.declared.Token.{Token}
 use Rattle.tokens.specs.declared.Token.the-variants.{End, Operator as Operates, Number, FaultyNumber, Name, Open, Close, Strange}

@@ -12,7 +12,7 @@ use Rattle.paper.specs.declared.faults.Fault.the-variants.{NoDigit, BadBase, To
 use Rattle.reader.specs.Reading.{no-limit, reading}
 use Rattle.reader.specs.declared.Reading.{Reading}
 use Rattle.reader.specs.declared.Reading.the-variants.{Value, Refused}
-use Rattle.variables.specs.Records.{sameBytes}
+use Rattle.records.specs.Records.{sameBytes}
 use Rattle.arithmetic.specs.declared.operators.Operator.the-variants.{Not, Product, Sum, Relation, And, Either}
 use Rattle.arithmetic.specs.declared.operators.Product.the-variants.{Times, Over, Mod}
 use Rattle.arithmetic.specs.declared.operators.Sum.the-variants.{Plus, Minus}

@@ -4,7 +4,7 @@ ghost use mathlib.Core.List.{[], _∷_};
 ghost use Prim.Native.Nat.{_+_, _<_, _≤_, _^_};
 ghost use lib.ListN.{length, drop};
 ghost use Rattle.tokens.specs.declared.Token.the-variants.{Operator as Operates};
-ghost use Rattle.variables.specs.Records.{sameBytes};
+ghost use Rattle.records.specs.Records.{sameBytes};
 ghost use Rattle.tokens.specs.inner.Steps.{lexemeOf};
 ghost use Rattle.tokens.specs.Tokens.{letter, wordByte, wordRun, lexeme, wordToken, wordAt, faultOf, numberAt, single, fromLess, fromGreater, symbolAt, numeral, startingAt, tokenAt};
 use arithmetic::operators::Either;

@@ -11,13 +11,14 @@ use lib.ListN.{length}
 use Rattle.paper.specs.Refusals.{unknown-name, allowance-spent, bad-table, over-length, longest}
 use Rattle.paper.specs.declared.RecordPlace.{RecordPlace}
 use Rattle.paper.proofs.Choice.{clash, either}
-use Rattle.variables.specs.Records.{nextPlace, Sought, absent, present}
-use Rattle.variables.specs.Tables.{most, sound, badTable, scanned, checked, recordsOf, soughtIn, foundAs, foundIn, lookedUp, checkNumber, checkPlace, checkCount, foundNumber, foundPlace, foundKind, kindOf, checkNumbers, lookUpNumbers}
+use Rattle.records.specs.Records.{nextPlace}
+use Rattle.records.specs.Kinds.{kindOf}
+use Rattle.records.proofs.KindLaws.{kind-bounded}
+use Rattle.variables.specs.Tables.{most, Sought, absent, present, sound, badTable, scanned, checked, recordsOf, soughtIn, foundAs, foundIn, lookedUp, checkNumber, checkPlace, checkCount, foundNumber, foundPlace, foundKind, checkNumbers, lookUpNumbers}
 use Rattle.variables.specs.declared.Checked.{Checked}
 use Rattle.variables.specs.declared.Checked.the-variants.{Good, BadTable}
 use Rattle.variables.specs.declared.Found.{Found}
 use Rattle.variables.proofs.Good.{Laid, laid, wholes}
-use Rattle.variables.proofs.KindLaws.{kind-bounded}
 use Rattle.variables.proofs.Unique.{found}
 
 pub record Bounded (r : Checked) : Type 0 where

@@ -5,7 +5,8 @@ use Prim.Native.Nat.{ℕ, zero, suc, _≤_}
 use native.Mathlib.Omega.{arith}
 use borrow.Author.Tests.{lt-ltb, le-ltb}
 use lib.ListN.{length}
-use Rattle.variables.specs.Records.{nextPlace, Entry, entryAt, entries}
+use Rattle.records.specs.Records.{nextPlace, Entry, entryAt}
+use Rattle.variables.specs.Tables.{entries}
 
 -- behind `stop` no record starts
 pub none-left : (table : List ℕ) (stop place left : ℕ) → stop ≤ place → entries left table stop place ≡ []

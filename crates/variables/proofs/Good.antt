@@ -1,71 +1,23 @@
 -- A good table: its records lie one behind the other from 0 to the slice's end, so many as its answer says, and each is whole.
-use mathlib.Core.Bool.{Bool, true, false, _&&_, and-eq-true-iff}
+use mathlib.Core.Bool.{Bool, true, false, and-eq-true-iff}
 use mathlib.Core.List.{List, [], _∷_, List·Memᴰ, List·Memᴰ·head as head, List·Memᴰ·tail as tail, List·Memᴰ·not-nil}
 use mathlib.Core.Path.{_≡_, refl, ap, sym, subst, _∙_}
 use Prim.Native.Nat.{ℕ, zero, suc, _+_, _≤_}
 use native.Mathlib.Omega.{arith}
-use borrow.Author.Tests.{leb-true, eqb-true, eq-eqb, ltb-false}
-use lib.Dec.{leb, ltb, eqb}
-use lib.ListN.{length, getD, take, drop, length-drop}
-use lib.Seq.{length-take-le}
+use borrow.Author.Tests.{leb-true, ltb-false}
+use lib.Dec.{leb, ltb}
+use lib.ListN.{length}
 use Rattle.paper.specs.Refusals.{longest}
-use Rattle.variables.specs.Records.{kindAt, nameLength, valueLength, valueStart, nextPlace, nameAt, valueAt, allNameBytes, fitting, headed, sized, shaped, Entry, entryAt}
-use Rattle.variables.specs.Tables.{most, sound, badTable, scanned, checked, recordsOf, variableAt}
+use Rattle.records.specs.Records.{nextPlace, shaped, Entry, entryAt}
+use Rattle.records.proofs.Whole.{Whole, shaped-whole}
+use Rattle.variables.specs.Tables.{most, isNew, sound, badTable, scanned, checked, recordsOf}
 use Rattle.variables.specs.declared.Checked.the-variants.{Good}
 use Rattle.variables.proofs.Chain.{Chain, end, next, exact, starts, place-of}
 
--- a record of the right shape: the mark, kinds 0 to 2, a name of 1 to 32 bytes, an integer of 4 bytes, and every part inside the slice
-pub record Whole (table : List ℕ) (e : Entry) : Type 0 where
-  pub starts : e ≡ entryAt table (e .place)
-  pub mark-first : getD table (e .place) 0 ≡ 86
-  pub mark-second : getD table (e .place + 1) 0 ≡ 82
-  pub kind : e .kind ≤ 2
-  pub name-from : 1 ≤ length (e .name)
-  pub name-to : length (e .name) ≤ 32
-  pub allowed : allNameBytes (e .name) ≡ true
-  pub integer : e .kind ≡ 1 → length (e .value) ≡ 4
-  pub inside : e .place + 5 + length (e .name) + length (e .value) ≤ length table
-  pub name-length : length (e .name) ≡ nameLength table (e .place)
-  pub value-length : length (e .value) ≡ valueLength table (e .place)
-
-both : (a : Bool) {b : Bool} → (a && b) ≡ true → (a ≡ true) × (b ≡ true)
-both a {b} e = and-eq-true-iff a b .0 e
-
 module _ (table : List ℕ) (place : ℕ) where
-  shaped-whole : shaped table place ≡ true → Whole table (entryAt table place)
-  unfolding headed sized fitting nameAt valueAt entryAt
-  shaped-whole e =
-      let h = both (headed table place) e in
-      let s = both (sized table place) (h .1) in
-      let first = both (eqb (getD table place 0) 86) (h .0) in
-      let m = both (eqb (getD table (place + 1) 0) 82) (first .1) in
-      let n = both (leb 1 (nameLength table place)) (s .0) in
-      let t = both (leb (nameLength table place) 32) (n .1) in
-      let f = both (fitting (kindAt table place) (valueLength table place)) (t .1) in
-      let from : 1 ≤ nameLength table place = leb-true _ _ (n .0) in
-      let to : nameLength table place ≤ 32 = leb-true _ _ (t .0) in
-      let inside : nextPlace table place ≤ length table = leb-true _ _ (f .1) in
-      let to-name = length-drop (place + 5) table in
-      let to-value = length-drop (valueStart table place) table in
-      let name = length-take-le (nameLength table place) (drop (place + 5) table) (omega arith) in
-      let value = length-take-le (valueLength table place) (drop (valueStart table place) table) (omega arith) in
-      record {
-        starts = refl;
-        mark-first = eqb-true _ _ (first .0);
-        mark-second = eqb-true _ _ (m .0);
-        kind = leb-true _ _ (m .1);
-        name-from = omega arith;
-        name-to = omega arith;
-        allowed = s .1;
-        integer = λ k. value ∙ eqb-true _ _ (rw (eq-eqb (kindAt table place) 1 k) at (f .0));
-        inside = omega arith;
-        name-length = name;
-        value-length = value;
-      }
-
   sound-whole : sound table place ≡ true → Whole table (entryAt table place)
   unfolding sound
-  sound-whole e = shaped-whole (both (shaped table place) e .0)
+  sound-whole e = shaped-whole table place (and-eq-true-iff (shaped table place) (isNew table place) .0 e .0)
 
   pub next-inside : sound table place ≡ true → nextPlace table place ≤ length table
   unfolding entryAt
@@ -152,10 +104,3 @@ laid {n} table e = go (ltb longest (length table)) refl where
 -- the parts of each record
 pub wholes : {n : ℕ} {table : List ℕ} {e : Entry} → Laid table n → List·Memᴰ e (recordsOf table) → Whole table e
 wholes {table = table} {e = e} l m = subst (Whole table) (sym (starts (l .chain) m)) (sound-whole table (e .place) (l .sounds e m))
-
--- the part that a look-up hands out is the record's value
-pub value-part :
-    {table : List ℕ} {e : Entry} → Whole table e →
-    take (variableAt table e .length) (drop (variableAt table e .start) table) ≡ e .value
-unfolding entryAt valueAt
-value-part w = sym (ap (λ x. x .value) (w .starts))

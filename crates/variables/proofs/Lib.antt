@@ -1,8 +1,5 @@
--- Equal names and their keys, the lines of those, the kinds, what holds of a good table, and the bounds of every answer.
-pub mod Equal
+-- Records one behind the other and the lines of their keys, what holds of a good table, and the bounds of every answer.
 pub mod Chain
-pub mod KeyLaws
-pub mod KindLaws
 pub mod Lines
 pub mod Passed
 pub mod Good

@@ -10,10 +10,11 @@ use lib.Dec.{ltb, eqb}
 use lib.ListN.{length, getD, drop, drop-of-length-le}
 use lib.Seq.{drop-cons}
 use Rattle.paper.proofs.Choice.{either}
-use Rattle.variables.specs.Records.{nextPlace, nameAt, sameName, Entry, entryAt, entries, absent, present, sought}
-use Rattle.variables.specs.Tables.{most, before}
-use Rattle.variables.specs.inner.Keys.{keyOf, lineOf, linesOf, names, soughtBy}
-use Rattle.variables.proofs.KeyLaws.{key-small, same-key}
+use Rattle.records.specs.Records.{nextPlace, nameAt, sameName, Entry, entryAt}
+use Rattle.records.specs.inner.Keys.{keyOf}
+use Rattle.records.proofs.KeyLaws.{key-small, same-key}
+use Rattle.variables.specs.Tables.{most, entries, absent, present, sought, before}
+use Rattle.variables.specs.inner.Keys.{lineOf, linesOf, names, soughtBy}
 
 -- one line of any keys
 module _ (table keys name : List ℕ) (at : ℕ) where

@@ -1,13 +1,13 @@
--- A record that a name means is the table's own at its place, in any bytes; so the part that a look-up hands out is its value.
+-- A record that a name means is the table's own at its place, in any bytes.
 use mathlib.Core.List.{List}
 use mathlib.Core.Path.{_≡_, ap, sym, _∙_}
 use Prim.Native.Nat.{ℕ, zero, suc}
 use native.Mathlib.Omega.{arith}
 use lib.Dec.{ltb}
-use lib.ListN.{length, take, drop}
+use lib.ListN.{length}
 use Rattle.paper.proofs.Choice.{either}
-use Rattle.variables.specs.Records.{Entry, Sought, absent, present, nextPlace, valueAt, entryAt, entries, sought, sameName}
-use Rattle.variables.specs.Tables.{most, soughtIn, variableAt}
+use Rattle.records.specs.Records.{Entry, nextPlace, entryAt, sameName}
+use Rattle.variables.specs.Tables.{most, entries, Sought, absent, present, sought, soughtIn}
 
 pub record Own (table : List ℕ) (m : Sought) : Type 0 where
   pub own : (e : Entry) → m ≡ present e → e ≡ entryAt table (e .place)
@@ -38,8 +38,3 @@ entries-own (suc left) table name stop place =
 
 pub sought-own : (table name : List ℕ) → Own table (soughtIn table name)
 sought-own table name = entries-own most table name (length table) 0
-
-pub own-value : (table : List ℕ) (e : Entry) → e ≡ entryAt table (e .place)
-    → e .value ≡ take (variableAt table e .length) (drop (variableAt table e .start) table)
-unfolding entryAt valueAt
-own-value table e h = ap (λ (f : Entry). f .value) h

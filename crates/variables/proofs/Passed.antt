@@ -5,7 +5,7 @@ use Prim.Native.Nat.{ℕ, suc, _+_, _-_, _<_}
 use native.Mathlib.Omega.{arith}
 use lib.ListN.{length, getD, set, take, drop, length-map, length-append}
 use lib.Seq.{drop-cons, append-snoc, set-append-seam, take-append-seam}
-use Rattle.variables.specs.Records.{nextPlace, entryAt}
+use Rattle.records.specs.Records.{nextPlace, entryAt}
 use Rattle.variables.specs.Tables.{most, before}
 use Rattle.variables.specs.inner.Keys.{lineOf, linesOf, laidOver}
 use Rattle.variables.proofs.Chain.{Chain, end, none-left, exact, snoc}

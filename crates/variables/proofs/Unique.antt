@@ -6,9 +6,9 @@ use mathlib.Core.Path.{_≡_, refl, ap, sym, _∙_}
 use Prim.Native.Nat.{ℕ, _≤_, _<_}
 use native.Mathlib.Omega.{arith}
 use lib.ListN.{length, length-append}
-use Rattle.variables.specs.Records.{nextPlace, nameAt, shaped, sameName, Entry, entryAt, Sought, absent, present, sought, isAbsent}
-use Rattle.variables.specs.Tables.{most, isNew, sound, recordsOf, soughtIn}
-use Rattle.variables.proofs.Equal.{reflexive, alike, other-length}
+use Rattle.records.specs.Records.{nextPlace, nameAt, shaped, sameName, Entry, entryAt}
+use Rattle.records.proofs.Equal.{reflexive, alike, other-length}
+use Rattle.variables.specs.Tables.{most, Sought, absent, present, sought, isAbsent, isNew, sound, recordsOf, soughtIn}
 use Rattle.variables.proofs.Chain.{Chain, end, next, exact, place-of, starts, later, split}
 use Rattle.variables.proofs.Good.{Laid, wholes}
 

@@ -1,22 +1,40 @@
--- When a table is good, and what a name means in it.
-use mathlib.Core.Bool.{Bool, cond, _&&_}
+-- The records of a table, when it is good, and what a name means in it.
+use mathlib.Core.Bool.{Bool, true, false, cond, _&&_}
 use mathlib.Core.List.{List, [], _∷_}
 use Prim.Native.Nat.{ℕ, zero, suc}
-use lib.Dec.{leb, eqb}
+use lib.Dec.{ltb, leb}
 use lib.ListN.{length}
 use Rattle.paper.specs.Answers.{in-text, in-table}
 use Rattle.paper.specs.Refusals.{unknown-name, bad-table, over-length, tooLong}
-use Rattle.variables.specs.Records.{string-kind, integer-kind, macro-kind, nextPlace, nameAt, valueStart, valueLength, shaped, Entry, entries, Sought, absent, present, sought, isAbsent}
+use Rattle.records.specs.Records.{nextPlace, nameAt, shaped, sameName, Entry, entryAt}
+use Rattle.records.specs.Kinds.{kindNumber, variableAt}
 use Rattle.variables.specs.declared.Checked.{Checked}
 use Rattle.variables.specs.declared.Checked.the-variants.{Good, BadTable}
 use Rattle.variables.specs.declared.Found.{Found}
 use Rattle.variables.specs.declared.Found.the-variants.{At, Unknown, BadTable as InBadTable}
-use Rattle.variables.specs.declared.Variable.{Variable}
-use Rattle.variables.specs.declared.kinds.Kind.{Kind}
-use Rattle.variables.specs.declared.kinds.Kind.the-variants.{Text, Integer, Macro}
 
 abbrev pub most : ℕ
 most = 256
+
+-- the records from a place on that start before `stop`, at most so many
+unfoldable pub entries : ℕ → List ℕ → ℕ → ℕ → List Entry
+entries zero table stop place = []
+entries (suc more) table stop place =
+    let rest = entries more table stop (nextPlace table place) in
+    cond (ltb place stop) (entryAt table place ∷ rest) []
+
+-- a name sought among records: the first that has it, if any
+pub data Sought : Type 0 where
+  absent : Sought
+  present : Entry → Sought
+
+abbrev pub isAbsent : Sought → Bool
+isAbsent absent = true
+isAbsent (present e) = false
+
+unfoldable pub sought : List Entry → List ℕ → Sought
+sought [] name = absent
+sought (e ∷ es) name = let rest = sought es name in cond (sameName (e .name) name) (present e) rest
 
 -- the records that start before a place
 abbrev pub before : List ℕ → ℕ → List Entry
@@ -55,25 +73,6 @@ recordsOf table = entries most table (length table) 0
 -- the record of a good table that a name means
 abbrev pub soughtIn : List ℕ → List ℕ → Sought
 soughtIn table name = sought (recordsOf table) name
-
--- kind 0 is a string, 1 an integer, 2 a macro; a good table has no other
-abbrev pub kindOf : ℕ → Kind
-kindOf kind = cond (eqb kind string-kind) Text (cond (eqb kind integer-kind) Integer Macro)
-
-abbrev pub kindNumber : Kind → ℕ
-kindNumber Text = string-kind
-kindNumber Integer = integer-kind
-kindNumber Macro = macro-kind
-
--- a record as the code hands it out: its place, its kind, and where its value lies
-abbrev pub variableAt : List ℕ → Entry → Variable
-variableAt table e =
-    record {
-      at = record { 0 = e .place };
-      kind = kindOf (e .kind);
-      start = valueStart table (e .place);
-      length = valueLength table (e .place);
-    }
 
 abbrev pub foundAs : List ℕ → Sought → Found
 foundAs table absent = Unknown

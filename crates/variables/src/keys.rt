@@ -2,28 +2,27 @@
 // comes to the table only where the keys are equal: it does not follow the records' lengths, and compares few names.
 ghost use mathlib.Core.Path.{_≡_};
 ghost use mathlib.Core.Bool.{_&&_};
-ghost use Prim.Native.Nat.{_/_, _%_, _<_, _≤_};
+ghost use Prim.Native.Nat.{_/_, _%_, _≤_};
 ghost use lib.Dec.{eqb};
 ghost use Rattle.variables.specs.inner.Keys.{lineOf, soughtBy, matchAs};
-ghost use Rattle.variables.specs.Records.{nameAt, sameName, entryAt};
+ghost use Rattle.records.specs.Records.{nameAt, sameName, entryAt};
 use crate::Match;
-use crate::names::key_of;
-use crate::names::same_name;
-use crate::records;
+use records::names::key_of;
+use records::names::same_name;
 
 // The line of the record at a place.
-pub(crate) fn line_at(table: &[u8], place: usize) -> u32
+pub(crate) fn line_at(table: &[u8], place: u32) -> u32
     requires { ⌜ place ≤ 65535 ⌝ }
     ensures { λ r. ⌜ r ≡ lineOf (entryAt (now (table .entry)) place) ⌝ }
 {
     let key = key_of(records::name_at(table, place));
-    65536 * (place as u32) + key
+    65536 * place + key
 }
 
-fn place_in(line: u32) -> usize
-    ensures { λ r. ⌜ (r ≡ line / 65536) × (r ≤ 65535) ⌝ }
+fn place_in(line: u32) -> u32
+    ensures { λ r. ⌜ r ≡ line / 65536 ⌝ }
 {
-    (line / 65536) as usize
+    line / 65536
 }
 
 // Whether a line's record has a name of this key.

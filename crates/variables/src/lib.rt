@@ -1,23 +1,19 @@
 // Variables: is a table good, and what does a name mean in it.
 ghost use mathlib.Core.Path.{_≡_};
-ghost use Prim.Native.Nat.{_<_, _≤_};
+ghost use Prim.Native.Nat.{_≤_};
 ghost use lib.ListN.{length, take, drop};
 ghost use Rattle.variables.specs.Tables.{badTable, before, isNew, sound, scan, most, checked, lookedUp};
 ghost use Rattle.variables.specs.inner.Keys.{linesOf, laidOver, reach, KeyedAs, inGoodTable};
 
-pub mod integers;
 pub mod keys;
-pub mod kinds;
-pub mod names;
-mod records;
 
 use keys::find;
 use keys::line_at;
-use kinds::Kind;
 use paper::BAD_TABLE;
 use paper::LONGEST;
 use paper::OVER_LENGTH;
 use paper::RecordPlace;
+use records::Variable;
 
 // The most records that a table may have.
 pub const MOST_RECORDS: usize = 256;
@@ -25,14 +21,6 @@ pub const MOST_RECORDS: usize = 256;
 pub enum Checked {
     Good(usize),
     BadTable { number: u8, at: RecordPlace },
-}
-
-// A variable that was found: its record's place, its kind, and where its value lies.
-pub struct Variable {
-    pub at: RecordPlace,
-    pub kind: Kind,
-    pub start: usize,
-    pub length: usize,
 }
 
 pub enum Found {
@@ -92,7 +80,8 @@ fn check(table: &[u8], keys: &mut [u32]) -> Checked
     scan(table, keys)
 }
 
-// The records one behind the other, up to the first bad one.
+// The records one behind the other, up to the first bad one. The next place is cast to a `u32` and back so that the compiler knows that
+// every place is one, and keeps one register for `place` and `at`.
 fn scan(table: &[u8], keys: &mut [u32]) -> Checked
     requires { ⌜ (length (now table) ≤ 65535) × (length (now keys) ≡ most) ⌝ }
     ensures answer { λ r. ⌜ r ≡ scan (now (table .entry)) ⌝ }
@@ -104,9 +93,11 @@ fn scan(table: &[u8], keys: &mut [u32]) -> Checked
         if count == MOST_RECORDS {
             return bad_table(BAD_TABLE, place);
         }
-        if is_sound(table, &keys[0..count], place) {
-            keys[count] = line_at(table, place);
-            place = records::next_place(table, place);
+        let at = place as u32;
+        if is_sound(table, &keys[0..count], at) {
+            keys[count] = line_at(table, at);
+            let next = records::next_place(table, at) as u32;
+            place = next as usize;
             count += 1;
         } else {
             return bad_table(BAD_TABLE, place);
@@ -115,9 +106,8 @@ fn scan(table: &[u8], keys: &mut [u32]) -> Checked
     Checked::Good(count)
 }
 
-fn is_sound(table: &[u8], keys: &[u32], place: usize) -> bool
-    requires place { ⌜ place < length (now table) ⌝ }
-    requires keys { ⌜ now keys ≡ linesOf (before (now table) place) ⌝ }
+fn is_sound(table: &[u8], keys: &[u32], place: u32) -> bool
+    requires { ⌜ now keys ≡ linesOf (before (now table) place) ⌝ }
     ensures { λ r. ⌜ r ≡ sound (now (table .entry)) place ⌝ }
 {
     if records::is_shaped(table, place) {
@@ -127,9 +117,8 @@ fn is_sound(table: &[u8], keys: &[u32], place: usize) -> bool
 }
 
 // Whether no record before this one has an equal name.
-fn is_new(table: &[u8], keys: &[u32], place: usize) -> bool
-    requires place { ⌜ place < length (now table) ⌝ }
-    requires keys { ⌜ now keys ≡ linesOf (before (now table) place) ⌝ }
+fn is_new(table: &[u8], keys: &[u32], place: u32) -> bool
+    requires { ⌜ now keys ≡ linesOf (before (now table) place) ⌝ }
     ensures { λ r. ⌜ r ≡ isNew (now (table .entry)) place ⌝ }
 {
     match find(table, keys, records::name_at(table, place)) {

@@ -13,14 +13,14 @@ use Rattle.forms.specs.Calls.{decimalOf}
 use Rattle.reader.specs.Reading.{reading, no-limit}
 use Rattle.reader.specs.declared.Reading.{Reading}
 use Rattle.reader.specs.declared.Reading.the-variants.{Value, Refused}
+use Rattle.records.specs.Kinds.{pattern}
+use Rattle.records.specs.declared.Variable.{Variable}
+use Rattle.records.specs.declared.kinds.Kind.{Kind}
+use Rattle.records.specs.declared.kinds.Kind.the-variants as Kinds
 use Rattle.variables.specs.Tables.{soughtIn}
 use Rattle.variables.specs.inner.Keys.{matchAs}
-use Rattle.variables.specs.Names.{pattern}
 use Rattle.variables.specs.declared.Match.{Match}
 use Rattle.variables.specs.declared.Match.the-variants.{Record, Missing}
-use Rattle.variables.specs.declared.Variable.{Variable}
-use Rattle.variables.specs.declared.kinds.Kind.{Kind}
-use Rattle.variables.specs.declared.kinds.Kind.the-variants as Kinds
 use Rattle.gs.specs.Readings.{Expand, givesAll}
 use Rattle.references.specs.declared.Referred.{Referred}
 use Rattle.references.specs.declared.Referred.the-variants.{Number, TooBig, Unknown, Text, Integer, Macro}

@@ -8,7 +8,7 @@ use borrow.Author.Needs.{needs}
 use borrow.Author.Tests.{eq-eqb, ne-eqb}
 use lib.Dec.{eqb}
 use lib.ListN.{length, getD}
-use Rattle.variables.specs.Records.{sameBytes}
+use Rattle.records.specs.Records.{sameBytes}
 use Rattle.tokens.proofs.Laws.{other-length}
 use Rattle.tokens.proofs.spells_three.Statement.{statement}
 use Rattle.tokens.proofs.spells_three.Tie as tie

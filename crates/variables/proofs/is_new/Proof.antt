@@ -4,8 +4,8 @@ use mathlib.Core.List.{List}
 use mathlib.Core.Path.{_≡_, refl, ap, sym, _∙_}
 use Prim.Native.Nat.{ℕ}
 use borrow.Author.Needs.{needs}
-use Rattle.variables.specs.Records.{nameAt, Sought, absent, present, sought, isAbsent}
-use Rattle.variables.specs.Tables.{before, isNew}
+use Rattle.records.specs.Records.{nameAt}
+use Rattle.variables.specs.Tables.{Sought, absent, present, sought, isAbsent, before, isNew}
 use Rattle.variables.specs.inner.Keys.{matchAs}
 use Rattle.variables.specs.declared.Match.{Match}
 use Rattle.variables.specs.declared.Match.the-variants.{Record, Missing}
@@ -34,7 +34,7 @@ module _ (c : tie.After-find) where
 
   known : none (c .find .result) ≡ isNew table place
   known =
-      ap none (c .find .ensures ∙ ap (matchAs table) (by-keys table _ place (start .pre .1) ∙ ap (sought (before table place)) (c .before .name-at .ensures)))
+      ap none (c .find .ensures ∙ ap (matchAs table) (by-keys table _ place (start .pre) ∙ ap (sought (before table place)) (c .before .name-at .ensures)))
       ∙ none-found table (sought (before table place) (nameAt table place))
 
 returns : tie.Need-returns

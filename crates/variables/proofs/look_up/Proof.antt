@@ -3,8 +3,7 @@ use mathlib.Core.List.{List}
 use mathlib.Core.Path.{_≡_, refl, ap, sym, _∙_}
 use Prim.Native.Nat.{ℕ}
 use borrow.Author.Needs.{needs}
-use Rattle.variables.specs.Records.{Sought, absent, present}
-use Rattle.variables.specs.Tables.{soughtIn, foundAs, foundIn, lookedUp}
+use Rattle.variables.specs.Tables.{Sought, absent, present, soughtIn, foundAs, foundIn, lookedUp}
 use Rattle.variables.specs.inner.Keys.{matchAs, inGoodTable}
 use Rattle.variables.specs.declared.Checked.{Checked}
 use Rattle.variables.proofs.KeysFind.{lines-inside, all-lines, sought-by-keys}

@@ -11,7 +11,7 @@ use borrow.Author.Needs.{needs}
 use borrow.Author.Tests.{le-leb, lt-leb}
 use lib.ListN.{length, length-set}
 use Rattle.paper.specs.Refusals.{bad-table}
-use Rattle.variables.specs.Records.{nextPlace}
+use Rattle.records.specs.Records.{nextPlace}
 use Rattle.variables.specs.Tables.{sound, badTable, scanned, most, before}
 use Rattle.variables.specs.inner.Keys.{linesOf, laidOver, reach}
 use Rattle.variables.specs.declared.Checked.{Checked}
@@ -83,7 +83,7 @@ part-is-sound-end : tie.Need-part-is-sound-end Inv-loop μ-loop
 part-is-sound-end c = omega arith
 
 is-sound-requires : tie.Need-is-sound-requires Inv-loop μ-loop
-is-sound-requires c κs = (omega arith, passed-part _ _ (c .before .before .before .before .loop .inv .5))
+is-sound-requires c κs = passed-part _ _ (c .before .before .before .before .loop .inv .5)
 
 line-at-requires : tie.Need-line-at-requires Inv-loop μ-loop
 line-at-requires c κs = omega arith
@@ -94,8 +94,10 @@ mul-keys c = omega arith
 slice-write-keys : tie.Need-slice-write-keys Inv-loop μ-loop
 slice-write-keys c = omega arith
 
-next-place-requires : tie.Need-next-place-requires Inv-loop μ-loop
-next-place-requires c κs = omega arith
+cast-next : tie.Need-cast-next Inv-loop μ-loop
+cast-next c =
+    let sound-here = sym (c .before .before .before .is-sound .ensures) ∙ c .before .before .if2 .taken in
+    omega (arith, next-inside _ _ sound-here)
 
 add-count : tie.Need-add-count Inv-loop μ-loop
 add-count c = omega arith
@@ -155,12 +157,15 @@ scan-spec =
     returns
     (λ c. search needs)
     (λ c. search needs)
+    (λ c. search needs)
     part-is-sound-end
     is-sound-requires
     line-at-requires
     mul-keys
     slice-write-keys
-    next-place-requires
+    (λ c κs. search needs)
+    cast-next
+    (λ c. search needs)
     add-count
     loop-less
     loop-again

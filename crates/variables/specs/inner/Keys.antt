@@ -5,9 +5,11 @@ use mathlib.Core.Path.{_≡_}
 use Prim.Native.Nat.{ℕ, _+_, _*_, _/_, _%_}
 use lib.Dec.{eqb}
 use lib.ListN.{length, drop, replicate}
-use Rattle.variables.specs.Records.{small, sameName, nameAt, Entry, entryAt, Sought, absent, present}
+use Rattle.records.specs.Records.{sameName, nameAt, Entry, entryAt}
+use Rattle.records.specs.Kinds.{variableAt}
+use Rattle.records.specs.inner.Keys.{keyOf}
 use Rattle.variables.specs.Tables as Tables
-use Rattle.variables.specs.Tables.{most, before, recordsOf, variableAt}
+use Rattle.variables.specs.Tables.{most, before, recordsOf, Sought, absent, present}
 use Rattle.variables.specs.declared.Checked.{Checked}
 use Rattle.variables.specs.declared.Checked.the-variants.{Good, BadTable}
 use Rattle.variables.specs.declared.Found.{Found}
@@ -15,14 +17,6 @@ use Rattle.variables.specs.declared.Found.the-variants.{At, Unknown}
 use Rattle.variables.specs.declared.Keyed.{Keyed}
 use Rattle.variables.specs.declared.Match.{Match}
 use Rattle.variables.specs.declared.Match.the-variants.{Record, Missing}
-
--- a name's key: its bytes, with A to Z as a to z, as digits of base 31, kept to 16 bits
-unfoldable pub keyFrom : ℕ → List ℕ → ℕ
-keyFrom key [] = key
-keyFrom key (c ∷ cs) = keyFrom ((31 * key + small c) % 65536) cs
-
-abbrev pub keyOf : List ℕ → ℕ
-keyOf name = keyFrom 0 name
 
 abbrev pub lineOf : Entry → ℕ
 lineOf e = 65536 * e .place + keyOf (e .name)

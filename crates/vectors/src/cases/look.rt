@@ -3,8 +3,8 @@ use crate::answers;
 use crate::fields;
 use crate::fields::Cursor;
 use crate::slices;
+use records::Variable;
 use variables::Found;
-use variables::Variable;
 
 pub(crate) fn answer(
     line: &[u8],

@@ -8,17 +8,18 @@ use lib.ListN.{take, drop}
 use Rattle.paper.specs.Refusals.{unknown-name, allowance-spent}
 use Rattle.paper.specs.Traces.{run, ended}
 use Rattle.paper.proofs.Choice.{clash}
-use Rattle.variables.specs.Records.{Sought, absent, present}
-use Rattle.variables.specs.Tables.{kindOf, variableAt, soughtIn}
-use Rattle.variables.specs.Names.{Meaning, integer-of, pattern, valueAs, meant, inReading}
+use Rattle.records.specs.Kinds.{kindOf, variableAt, pattern}
+use Rattle.records.specs.declared.Variable.{Variable}
+use Rattle.records.specs.declared.kinds.Kind.{Kind}
+use Rattle.records.specs.declared.kinds.Kind.the-variants.{Text, Integer, Macro}
+use Rattle.records.proofs.Whole.{own-value}
+use Rattle.variables.specs.Tables.{Sought, absent, present, soughtIn}
+use Rattle.variables.specs.Names.{Meaning, integer-of, valueAs, meant, inReading}
 use Rattle.variables.specs.inner.Keys.{matchAs}
 use Rattle.variables.specs.declared.Match.{Match}
 use Rattle.variables.specs.declared.Match.the-variants.{Record, Missing}
-use Rattle.variables.specs.declared.Variable.{Variable}
-use Rattle.variables.specs.declared.kinds.Kind.{Kind}
-use Rattle.variables.specs.declared.kinds.Kind.the-variants.{Text, Integer, Macro}
 use Rattle.variables.proofs.KeysFind.{sought-by-keys}
-use Rattle.variables.proofs.Own.{Own, sought-own, own-value}
+use Rattle.variables.proofs.Own.{Own, sought-own}
 use Rattle.expressions.specs.Evaluations.{nameSteps, integerOf}
 use Rattle.expressions.specs.inner.Steps.{partBy}
 use Rattle.parts.specs.declared.Part.{Part}

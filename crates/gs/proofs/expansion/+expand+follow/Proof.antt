@@ -14,7 +14,7 @@ use Rattle.runs.proofs.StretchLaws.{run-stretch}
 use Rattle.references.specs.References.{referredIn}
 use Rattle.references.proofs.Resolved.{by-own-keys}
 use Rattle.gs.specs.inner.Steps.{Came, Read, pieceOf, lengthIn, partOf}
-use Rattle.variables.specs.declared.Variable.{Variable}
+use Rattle.records.specs.declared.Variable.{Variable}
 use Rattle.gs.proofs.Pieces.{laid-at, value-small}
 use Rattle.gs.proofs.PlainRuns.{at-run}
 use Rattle.symbols.proofs.Places.{Stands, quoteOf, symbol-stands}

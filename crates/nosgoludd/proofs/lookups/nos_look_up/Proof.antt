@@ -5,13 +5,12 @@ use Prim.Native.Nat.{ℕ, _+_, _≤_}
 use native.Mathlib.Omega.{arith}
 use lib.ListN.{getD}
 use borrow.Author.Needs.{needs}
-use Rattle.variables.specs.Records.{Sought, absent, present}
-use Rattle.variables.specs.Tables.{checked, soughtIn, foundAs, foundIn, lookedUp, foundLength}
+use Rattle.records.specs.declared.Variable.{Variable}
+use Rattle.variables.specs.Tables.{Sought, absent, present, checked, soughtIn, foundAs, foundIn, lookedUp, foundLength}
 use Rattle.variables.specs.declared.Checked.{Checked}
 use Rattle.variables.specs.declared.Checked.the-variants.{Good, BadTable}
 use Rattle.variables.specs.declared.Found.{Found}
 use Rattle.variables.specs.declared.Found.the-variants.{At}
-use Rattle.variables.specs.declared.Variable.{Variable}
 use Rattle.nosgoludd.specs.declared.lookups.NosVariable.{NosVariable}
 use Rattle.nosgoludd.specs.Faces.{foundFace}
 use Rattle.nosgoludd.proofs.lookups.nos_look_up.Statement.{statement}

@@ -7,7 +7,7 @@ use Prim.Native.Nat.{ℕ, _+_, _-_, _<_}
 use native.Mathlib.Omega.{arith}
 use borrow.Author.Needs.{needs}
 use lib.ListN.{length, getD, drop}
-use Rattle.variables.specs.Records.{nameByte}
+use Rattle.paper.specs.Bytes.{nameByte}
 use Rattle.symbols.specs.Symbols.{nameRun}
 use Rattle.symbols.proofs.Laws.{name-inside, name-more, name-none}
 use Rattle.symbols.proofs.bytes.skip_name.Statement.{statement}

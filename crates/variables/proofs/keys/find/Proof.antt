@@ -7,8 +7,8 @@ use native.Mathlib.Omega.{arith}
 use borrow.Author.Needs.{needs}
 use lib.Dec.{eqb}
 use lib.ListN.{length, getD, drop}
-use Rattle.variables.specs.Records.{nameAt, sameName, entryAt}
-use Rattle.variables.specs.Tables.{variableAt}
+use Rattle.records.specs.Records.{nameAt, sameName, entryAt}
+use Rattle.records.specs.Kinds.{variableAt}
 use Rattle.variables.specs.inner.Keys.{names, soughtBy, matchAs}
 use Rattle.variables.specs.declared.Match.the-variants.{Record}
 use Rattle.variables.proofs.Lines.{unmet, met, not-met}
@@ -46,16 +46,13 @@ mul-line c = omega arith
 shared-slice-read-line : tie.Need-shared-slice-read-line Inv-loop μ-loop
 shared-slice-read-line c = omega arith
 
-variable-at-requires : tie.Need-variable-at-requires Inv-loop μ-loop
-variable-at-requires c κs = omega arith
-
 returns : tie.Need-returns Inv-loop μ-loop
 returns c =
     let p = c .before in
     let s = p .before .before in
     let a = start s .args in
     let found-it = met (a .table .now) (a .keys .now) (a .name .now) _ (s .before .before .loop-test .taken) (told s ∙ p .before .if1 .taken) in
-    ap Record (c .variable-at .ensures ∙ ap (λ p. variableAt (a .table .now) (entryAt (a .table .now) p)) (p .place-in .ensures .0))
+    ap Record (c .variable-at .ensures ∙ ap (λ p. variableAt (a .table .now) (entryAt (a .table .now) p)) (p .place-in .ensures))
     ∙ ap (matchAs _) (sym (head s .loop .inv ∙ found-it))
 
 add-at : tie.Need-add-at Inv-loop μ-loop
@@ -85,7 +82,7 @@ find-spec =
     shared-slice-read-line
     (λ c κs. search needs)
     (λ c κs. search needs)
-    variable-at-requires
+    (λ c κs. search needs)
     returns
     add-at
     loop-less

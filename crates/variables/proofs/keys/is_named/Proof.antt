@@ -2,7 +2,7 @@
 use mathlib.Core.Path.{ap, _∙_}
 use borrow.Author.Needs.{needs}
 use borrow.Author.Tests.{eq-eqb, ne-eqb}
-use Rattle.variables.specs.Records.{nameAt, sameName}
+use Rattle.records.specs.Records.{nameAt, sameName}
 use Rattle.variables.proofs.keys.is_named.Statement.{statement}
 use Rattle.variables.proofs.keys.is_named.Tie as tie
 
@@ -12,7 +12,7 @@ returns c =
     let q = p .before in
     let a = q .before .before .before .before .args in
     rw (eq-eqb _ _ (q .before .if1 .taken))
-    (c .same-name .ensures ∙ ap (λ n. sameName n (a .name .now)) (p .name-at .ensures ∙ ap (nameAt (a .table .now)) (q .place-in .ensures .0)))
+    (c .same-name .ensures ∙ ap (λ n. sameName n (a .name .now)) (p .name-at .ensures ∙ ap (nameAt (a .table .now)) (q .place-in .ensures)))
 
 returns-2 : tie.Need-returns-2
 returns-2 c = rw (ne-eqb _ _ (c .if1 .left))

@@ -2,8 +2,8 @@
 use mathlib.Core.Path.{ap, _∙_}
 use Prim.Native.Nat.{_+_, _*_}
 use borrow.Author.Needs.{needs}
-use Rattle.variables.specs.Records.{entryAt}
-use Rattle.variables.specs.inner.Keys.{keyOf}
+use Rattle.records.specs.Records.{entryAt}
+use Rattle.records.specs.inner.Keys.{keyOf}
 use Rattle.variables.proofs.keys.line_at.Statement.{statement}
 use Rattle.variables.proofs.keys.line_at.Tie as tie
 
@@ -13,5 +13,4 @@ returns c = ap (λ k. 65536 * c .before .before .before .args .place + k) (c .ke
 
 pub line-at-spec : {M : Type 1} → statement M
 line-at-spec =
-    tie.close (tie.spec (λ c κs. search needs) (λ c κs. search needs) (λ c. search needs) (λ c. search needs) (λ c. search needs)
-    returns)
+    tie.close (tie.spec (λ c κs. search needs) (λ c κs. search needs) (λ c. search needs) (λ c. search needs) returns)
