@@ -9,7 +9,9 @@ use borrow.Author.Tests.{eqb-false}
 use lib.Dec.{eqb}
 use lib.ListN.{length, getD, drop, length-drop}
 use lib.Seq.{drop-cons}
-use Rattle.paper.specs.Bytes.{runOf, ends}
+use Rattle.paper.specs.Bytes.{runOf, ends, nameByte, wordByte, ofKind}
+use Rattle.paper.specs.declared.bytes.ByteKind.{ByteKind}
+use Rattle.paper.specs.declared.bytes.ByteKind.the-variants.{Space, Name, Word}
 use Rattle.paper.proofs.Choice.{either, clash}
 
 -- a byte that is not zero stands inside the text
@@ -25,12 +27,22 @@ passed-inside test text at without passes = inside text at (go (getD text at 0) 
   go zero e = clash (cc)
   go (suc c) e = omega arith
 
--- a byte at which no text ends stands inside it
+-- the zero is of no kind, so a byte of one stands inside the text
+pub kind-inside : (kind : ByteKind) (text : List ℕ) (at : ℕ) → ofKind kind (getD text at 0) ≡ true → at < length text
+unfolding nameByte wordByte
+kind-inside kind text at h = passed-inside (ofKind kind) text at (of-none kind) h where
+  of-none : (kind : ByteKind) → ofKind kind 0 ≡ false
+  of-none Space = refl
+  of-none Name = refl
+  of-none Word = refl
+
+-- a byte at which no text ends is not zero, and stands inside the text
+pub not-zero : (c : ℕ) → ends c ≡ false → 0 < c
+not-zero zero e = clash (cc)
+not-zero (suc c) e = omega arith
+
 pub goes-on : (text : List ℕ) (at : ℕ) → ends (getD text at 0) ≡ false → at < length text
-goes-on text at h = inside text at (not-zero (getD text at 0) h) where
-  not-zero : (c : ℕ) → ends c ≡ false → 0 < c
-  not-zero zero e = clash (cc)
-  not-zero (suc c) e = omega arith
+goes-on text at h = inside text at (not-zero (getD text at 0) h)
 
 module _ (test : ℕ → Bool) where
   pub run-none : (text : List ℕ) (at : ℕ) → test (getD text at 0) ≡ false → runOf test (drop at text) ≡ 0

@@ -1,8 +1,8 @@
-// The bytes of a text: one by its place, what kind it is, and the spaces from a place on.
+// The bytes of a text: one by its place, what kind it is, and where a run of one kind ends.
 ghost use mathlib.Core.Path.{_≡_};
 ghost use Prim.Native.Nat.{_+_};
 ghost use lib.ListN.{getD, drop};
-ghost use Rattle.paper.specs.Bytes.{among, spaces, ends, nameByte};
+ghost use Rattle.paper.specs.Bytes.{among, runOf, ends, nameByte, letter, wordByte, ofKind};
 
 // The byte at a place, 0 past the slice's end.
 pub fn byte(text: &[u8], at: usize) -> u8
@@ -42,12 +42,44 @@ pub fn is_name_byte(c: u8) -> bool
     c != b'>'
 }
 
-// The first place from `start` on whose byte is no space.
-pub fn skip_spaces(text: &[u8], start: usize) -> usize
-    ensures { λ r. ⌜ r ≡ start + spaces (drop start (now (text .entry))) ⌝ }
+pub fn is_letter(c: u8) -> bool
+    ensures { λ r. ⌜ r ≡ letter c ⌝ }
+{
+    among(b'A', b'Z', c) || among(b'a', b'z', c)
+}
+
+// A byte that a word of an expression may go on with.
+pub fn is_word_byte(c: u8) -> bool
+    ensures { λ r. ⌜ r ≡ wordByte c ⌝ }
+{
+    is_letter(c) || (among(b'0', b'9', c) || (c == b'_' || c == b'$'))
+}
+
+// The kinds of bytes of which runs are passed over.
+pub enum ByteKind {
+    Space,
+    Name,
+    Word,
+}
+
+impl ByteKind {
+    pub fn has(self, c: u8) -> bool
+        ensures { λ r. ⌜ r ≡ ofKind self c ⌝ }
+    {
+        match self {
+            ByteKind::Space => c == b' ',
+            ByteKind::Name => is_name_byte(c),
+            ByteKind::Word => is_word_byte(c),
+        }
+    }
+}
+
+// The first place from `start` on whose byte is not of a kind. A zero, which is of none, stands past the slice's end.
+pub fn skip(kind: ByteKind, text: &[u8], start: usize) -> usize
+    ensures { λ r. ⌜ r ≡ start + runOf (ofKind kind) (drop start (now (text .entry))) ⌝ }
 {
     let mut at = start;
-    while byte(text, at) == b' ' {
+    while kind.has(byte(text, at)) {
         at += 1;
     }
     at

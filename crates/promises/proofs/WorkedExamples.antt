@@ -8,7 +8,7 @@ use lib.Dec.{lit≤, lit<}
 use lib.IntN.{pos, negℤ}
 use lib.ListN.{length, drop}
 use Rattle.paper.specs.Answers.{Answer}
-use Rattle.paper.specs.Bytes.{nameByte}
+use Rattle.paper.specs.Bytes.{nameByte, wordByte}
 use Rattle.paper.specs.Layings.{terminator, laying, laidIn}
 use Rattle.paper.specs.Refusals.{bad-base, too-deep, allowance-spent, bad-expression}
 use Rattle.paper.specs.Texts.{bytes}
@@ -26,7 +26,7 @@ use Rattle.variables.specs.Names.{meant}
 use Rattle.symbols.specs.Symbols.{symbolAt, active, barred, code, coded, punctuation, toppedCode, toppedSymbol, referred, closed, quotedOther, firstAt, modeOf}
 use Rattle.gs.specs.Readings.{nameGives, contentGives, symbolGives, symbolsFrom, wholeText, expands}
 use Rattle.gs.specs.Translations.{readingOf, leftBy, translated, outAfter, translatedAnswer}
-use Rattle.tokens.specs.Tokens.{wordByte, wordToken, faultOf, single, fromLess, fromGreater, symbolAt as signAt, startingAt}
+use Rattle.tokens.specs.Tokens.{wordToken, faultOf, single, fromLess, fromGreater, symbolAt as signAt, startingAt}
 use Rattle.expressions.specs.Trees.{operatorsFrom, operandAt, wholeTree}
 use Rattle.expressions.specs.Evaluations.{divided}
 use Rattle.expressions.specs.Answers.{evaluated, evaluatedNumber, evaluatedCounted, evaluatedPlace, evaluatedValue}

@@ -9,7 +9,10 @@ use Rattle.paper.proofs.bytes.byte.Reads as byte
 use Rattle.paper.proofs.bytes.among.Reads as among
 use Rattle.paper.proofs.bytes.is_end.Reads as is-end
 use Rattle.paper.proofs.bytes.is_name_byte.Reads as is-name-byte
-use Rattle.paper.proofs.bytes.skip_spaces.Reads as skip-spaces
+use Rattle.paper.proofs.bytes.is_letter.Reads as is-letter
+use Rattle.paper.proofs.bytes.is_word_byte.Reads as is-word-byte
+use Rattle.paper.proofs.bytes.ByteKind.has.Reads as kind-has
+use Rattle.paper.proofs.bytes.skip.Reads as skip
 use Rattle.paper.proofs.faults.Fault.number.Reads as fault-number
 use Rattle.forms.proofs.calls.family_of.Reads as family-of
 use Rattle.forms.proofs.counts.count_decimal.Reads as count-decimal
@@ -96,7 +99,10 @@ pub record Determined : Type 0 where
   pub among : One among.Learnt rest answer-alone
   pub is-end : One is-end.Learnt rest answer-alone
   pub is-name-byte : One is-name-byte.Learnt rest answer-alone
-  pub skip-spaces : One skip-spaces.Learnt (lent rest) answer-alone
+  pub is-letter : One is-letter.Learnt rest answer-alone
+  pub is-word-byte : One is-word-byte.Learnt rest answer-alone
+  pub kind-has : One kind-has.Learnt rest answer-alone
+  pub skip : One skip.Learnt (plain (lent rest)) answer-alone
   pub fault-number : One fault-number.Learnt rest answer-alone
   -- forms
   pub family-of : One family-of.Learnt rest answer-alone

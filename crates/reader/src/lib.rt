@@ -9,8 +9,9 @@ use paper::BAD_BASE;
 use paper::LONGEST;
 use paper::OVER_LENGTH;
 use paper::TextPlace;
+use paper::bytes::ByteKind;
 use paper::bytes::byte;
-use paper::bytes::skip_spaces;
+use paper::bytes::skip;
 
 // The limit that refuses nothing.
 pub const NO_LIMIT: u32 = 4294967295;
@@ -33,7 +34,7 @@ pub fn read_unsigned(text: &[u8], whole: bool, limit: u32) -> Reading
     if LONGEST < text.len() {
         return judge::refused(OVER_LENGTH, 0);
     }
-    let start = skip_spaces(text, 0);
+    let start = skip(ByteKind::Space, text, 0);
     if byte(text, start) == b'&' {
         return based(text, whole, limit, start, start + 1, 16);
     }

@@ -1,50 +1,24 @@
--- What the proofs share: bytes at which no text ends, the bytes of a name, bytes that have no code, the symbol at a place as one row of tests, and ordinary bytes.
+-- What the proofs share: bytes that have no code, the symbol at a place as one row of tests, and ordinary bytes.
 use mathlib.Core.Bool.{Bool, true, false, cond, _||_, and-false, and-eq-true-iff}
-use mathlib.Core.List.{List, [], _∷_}
+use mathlib.Core.List.{List}
 use mathlib.Core.Path.{_≡_, refl, ap}
-use Prim.Native.Nat.{ℕ, suc, zero, _+_, _<_}
-use native.Mathlib.Numerals.{add-one}
+use Prim.Native.Nat.{ℕ, _+_, _<_}
 use native.Mathlib.Omega.{arith}
 use borrow.Author.Tests.{ltb-true, eqb-false, not-true, ne-eqb}
 use lib.Dec.{ltb, eqb}
-use lib.ListN.{length, getD, drop}
-use lib.Seq.{drop-cons}
-use Rattle.paper.specs.Bytes.{ends, nameByte}
-use Rattle.paper.proofs.Runs.{inside}
+use lib.ListN.{getD}
+use Rattle.paper.specs.Bytes.{ends}
 use Rattle.symbols.specs.declared.forms.Mode.{Mode}
 use Rattle.symbols.specs.declared.forms.Mode.the-variants.{Plain, Quoted}
 use Rattle.symbols.specs.declared.forms.Symbol.{Symbol}
 use Rattle.symbols.specs.declared.forms.Symbol.the-variants.{End, Byte}
 use Rattle.symbols.specs.Flags.{spaceEnds}
 use Rattle.symbols.specs.inner.SymbolSteps.{unmarked, atEnd, other, Ordinary}
-use Rattle.symbols.specs.Symbols.{punctuation, code, endingSpace, nameRun, active, plainSymbol, quotedOther, symbolAt}
+use Rattle.symbols.specs.Symbols.{punctuation, code, endingSpace, active, plainSymbol, quotedOther, symbolAt}
 
 pub left-false : (a b : Bool) → (a || b) ≡ false → a ≡ false
 left-false false b e = refl
 left-false true b e = e
-
--- a byte at which no text ends
-pub not-zero : (c : ℕ) → ends c ≡ false → 0 < c
-not-zero c e = let n = eqb-false c 0 (left-false (eqb c 0) _ e) in omega arith
-
--- a name's byte stands inside the text
-pub name-inside : (text : List ℕ) (at : ℕ) → nameByte (getD text at 0) ≡ true → at < length text
-unfolding nameByte
-name-inside text at h = inside text at (go (getD text at 0) h) where
-  go : (c : ℕ) → nameByte c ≡ true → 0 < c
-  go zero e = let z : _≡_ {A = ℕ} 0 1 = cc in omega arith
-  go (suc c) e = omega arith
-
-pub name-none : (text : List ℕ) (at : ℕ) → nameByte (getD text at 0) ≡ false → nameRun (drop at text) ≡ 0
-name-none [] zero n = refl
-name-none [] (suc at) n = refl
-name-none (x ∷ xs) zero n = rw n
-name-none (x ∷ xs) (suc at) n = name-none xs at n
-
-pub name-more : (text : List ℕ) (at : ℕ) → nameByte (getD text at 0) ≡ true → nameRun (drop at text) ≡ suc (nameRun (drop (at + 1) text))
-name-more text at e =
-    let h : at < length text = name-inside text at e in
-    rw (add-one, drop-cons text at 0, e)
 
 -- the zero past the end and "!" have no code
 pub uncoded : {c : ℕ} → code c < 256 → (c ≡ 0 → ⊥) × (c ≡ 33 → ⊥)

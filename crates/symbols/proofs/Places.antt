@@ -7,19 +7,19 @@ use native.Mathlib.Omega.{arith}
 use borrow.Author.Tests.{ltb-true, leb-false, eqb-true}
 use lib.Dec.{ltb, leb, eqb}
 use lib.ListN.{length, getD, drop}
-use Rattle.paper.specs.Bytes.{space, spaces, ends}
+use Rattle.paper.specs.Bytes.{runOf, space, spaces, ends, nameByte}
 use Rattle.paper.specs.Traces.{faultNumber}
 use Rattle.paper.specs.declared.faults.Fault.the-variants.{BadCode}
 use Rattle.paper.proofs.Choice.{either}
-use Rattle.paper.proofs.Runs.{inside, run-short, passed-within}
+use Rattle.paper.proofs.Runs.{inside, not-zero, run-short, passed-within}
 use Rattle.symbols.specs.declared.forms.Mode.{Mode}
 use Rattle.symbols.specs.declared.forms.Mode.the-variants.{Plain, Quoted}
 use Rattle.symbols.specs.declared.forms.Symbol.{Symbol}
 use Rattle.symbols.specs.declared.forms.Symbol.the-variants.{End, Byte, Reference, Faulty}
 use Rattle.symbols.specs.Flags.{spaceEnds, barPlain}
 use Rattle.symbols.specs.inner.SymbolSteps.{atEnd, other}
-use Rattle.symbols.specs.Symbols.{code, coded, toppedCode, endingSpace, toppedSymbol, barred, nameRun, referred, closed, active, quotedOther, symbolAt, quoteOpens, firstAt, modeOf, faulty}
-use Rattle.symbols.proofs.Laws.{left-false, not-zero, uncoded, symbol-tested}
+use Rattle.symbols.specs.Symbols.{code, coded, toppedCode, endingSpace, toppedSymbol, barred, referred, closed, active, quotedOther, symbolAt, quoteOpens, firstAt, modeOf, faulty}
+use Rattle.symbols.proofs.Laws.{left-false, uncoded, symbol-tested}
 
 -- in a text of so many bytes that is read in a mode, for a symbol at a place of it
 module _ (size at quote : ℕ) where
@@ -101,7 +101,7 @@ module _ (text : List ℕ) (flags : ℕ) (mode : Mode) (at : ℕ) (a : at ≤ le
   referred-stands : S (referred text at)
   unfolding referred
   referred-stands =
-      let run = nameRun (drop (at + 1) text) in
+      let run = runOf nameByte (drop (at + 1) text) in
       either S (ltb 0 run && eqb (getD text (at + 1 + run) 0) 62)
       (λ e.
       let both = and-eq-true-iff (ltb 0 run) _ .0 e in

@@ -1,11 +1,11 @@
 -- One symbol of a text: where the text ends, a byte, a reference, or a fault. Past the slice's end stands a zero, which ends the text
 -- as the slice's end does.
 use mathlib.Core.Bool.{Bool, false, cond, not, _&&_, _||_}
-use mathlib.Core.List.{List, [], _∷_}
-use Prim.Native.Nat.{ℕ, suc, _+_, _-_}
+use mathlib.Core.List.{List}
+use Prim.Native.Nat.{ℕ, _+_, _-_}
 use lib.Dec.{ltb, leb, eqb}
 use lib.ListN.{getD, drop}
-use Rattle.paper.specs.Bytes.{spaces, among, ends, nameByte}
+use Rattle.paper.specs.Bytes.{runOf, spaces, among, ends, nameByte}
 use Rattle.paper.specs.declared.faults.Fault.{Fault}
 use Rattle.paper.specs.declared.faults.Fault.the-variants.{BadCode, BadString, BadReference}
 use Rattle.symbols.specs.Flags.{spaceEnds, barPlain, quotePlain}
@@ -65,15 +65,10 @@ barred text flags mode at =
     let top = toppedSymbol text flags mode at in
     cond (eqb (getD text (at + 1) 0) 33) top (coded (code (getD text (at + 1) 0)) at (at + 2))
 
--- how many bytes that a name may have a text starts with
-abbrev pub nameRun : List ℕ → ℕ
-nameRun [] = 0
-nameRun (c ∷ cs) = cond (nameByte c) (suc (nameRun cs)) 0
-
 -- "<", one or more bytes each allowed in a name, ">"; otherwise a bad one
 unfoldable pub referred : List ℕ → ℕ → Symbol
 referred text at =
-    let run = nameRun (drop (at + 1) text) in
+    let run = runOf nameByte (drop (at + 1) text) in
     cond (ltb 0 run && eqb (getD text (at + 1 + run) 0) 62) (Reference (at + 1) (at + 1 + run) (at + 2 + run)) (faulty BadReference at)
 
 -- behind the closing quote: with bit 29 a space or the end must follow; without it spaces are skipped and the end must follow

@@ -1,14 +1,10 @@
-// The bytes of a text: what kind one is, and runs of one kind.
+// What a byte of a text is, by its flags and its mode.
 ghost use mathlib.Core.Path.{_≡_};
-ghost use Prim.Native.Nat.{_+_};
-ghost use lib.ListN.{drop};
 ghost use Rattle.symbols.specs.inner.SymbolSteps.{unmarked, stops, marks};
-ghost use Rattle.symbols.specs.Symbols.{endingSpace, nameRun};
+ghost use Rattle.symbols.specs.Symbols.{endingSpace};
 use crate::flags::Flags;
 use crate::forms::Mode;
-use paper::bytes::byte;
 use paper::bytes::is_end;
-use paper::bytes::is_name_byte;
 
 // Whether a byte is itself in every text: most are, and this is the quickest test that finds those.
 pub(crate) fn is_unmarked(c: u8) -> bool
@@ -39,15 +35,4 @@ pub(crate) fn is_mark(mark: u8, flags: Flags, bit: u32, c: u8) -> bool
     ensures { λ r. ⌜ r ≡ marks mark (flags .0) bit c ⌝ }
 {
     c == mark && !flags.has(bit)
-}
-
-// The first place from `start` on whose byte no name may have.
-pub(crate) fn skip_name(text: &[u8], start: usize) -> usize
-    ensures { λ r. ⌜ r ≡ start + nameRun (drop start (now (text .entry))) ⌝ }
-{
-    let mut at = start;
-    while is_name_byte(byte(text, at)) {
-        at += 1;
-    }
-    at
 }

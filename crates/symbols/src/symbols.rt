@@ -8,16 +8,16 @@ use crate::bytes::is_ending_space;
 use crate::bytes::is_mark;
 use crate::bytes::is_stop;
 use crate::bytes::is_unmarked;
-use crate::bytes::skip_name;
 use crate::codes::barred;
 use crate::flags::Flags;
 use crate::forms::Mode;
 use crate::forms::Symbol;
 use crate::forms::faulty;
 use paper::TextPlace;
+use paper::bytes::ByteKind;
 use paper::bytes::byte;
 use paper::bytes::is_end;
-use paper::bytes::skip_spaces;
+use paper::bytes::skip;
 use paper::faults::Fault;
 
 // Where the first symbol stands, and how the text is read.
@@ -32,7 +32,7 @@ fn referred(text: &[u8], at: usize) -> Symbol
     ensures { λ r. ⌜ r ≡ referred (now (text .entry)) at ⌝ }
 {
     let start = at + 1;
-    let end = skip_name(text, start);
+    let end = skip(ByteKind::Name, text, start);
     if end == start {
         return faulty(Fault::BadReference, at);
     }
@@ -64,7 +64,7 @@ fn closed(text: &[u8], flags: Flags, behind: usize) -> Symbol
     if flags.has(Flags::SPACE_ENDS) {
         return ended(is_stop(byte(text, behind)), behind);
     }
-    let end = skip_spaces(text, behind);
+    let end = skip(ByteKind::Space, text, behind);
     ended(is_end(byte(text, end)), end)
 }
 
@@ -131,7 +131,7 @@ pub fn symbol_at(text: &[u8], flags: Flags, mode: Mode, at: usize) -> Symbol
 pub fn open(text: &[u8], flags: Flags) -> Opening
     ensures { λ r. ⌜ (r .at ≡ firstAt (now (text .entry)) (flags .0)) × (r .mode ≡ modeOf (now (text .entry)) (flags .0)) ⌝ }
 {
-    let start = skip_spaces(text, 0);
+    let start = skip(ByteKind::Space, text, 0);
     if is_mark(b'"', flags, Flags::QUOTE_PLAIN, byte(text, start)) {
         return Opening {
             at: start + 1,

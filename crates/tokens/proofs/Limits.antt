@@ -6,7 +6,7 @@ use Prim.Native.Nat.{ℕ, _+_, _≤_}
 use native.Mathlib.Omega.{arith}
 use lib.Dec.{eqb}
 use lib.ListN.{length, getD, drop, length-drop}
-use Rattle.paper.specs.Bytes.{space, spaces, ends}
+use Rattle.paper.specs.Bytes.{space, spaces, ends, letter}
 use Rattle.paper.specs.Texts.{bytes}
 use Rattle.paper.proofs.Choice.{either}
 use Rattle.paper.proofs.Runs.{passed-within}
@@ -14,7 +14,7 @@ use Rattle.reader.specs.Reading.{no-limit, reading}
 use Rattle.reader.specs.declared.Reading.{Reading}
 use Rattle.reader.specs.declared.Reading.the-variants.{Value, Refused}
 use Rattle.records.specs.Records.{sameBytes}
-use Rattle.tokens.specs.Tokens.{Lexeme, letter, wordToken, faultOf, numberBy, single, fromLess, fromGreater, symbolAt, numeral, startingAt, tokenAt}
+use Rattle.tokens.specs.Tokens.{Lexeme, wordToken, faultOf, numberBy, single, fromLess, fromGreater, symbolAt, numeral, startingAt, tokenAt}
 use Rattle.tokens.specs.declared.Token.{Token}
 use Rattle.tokens.specs.declared.Token.the-variants.{End, Operator as Operates, Number, FaultyNumber, Name, Open, Close, Strange}
 use Rattle.tokens.proofs.Places.{Reads, reading-reads}

@@ -8,18 +8,17 @@ use native.Mathlib.Omega.{arith}
 use borrow.Author.Tests.{eqb-true, eqb-false}
 use lib.Dec.{ltb, eqb}
 use lib.ListN.{length, getD, drop, length-drop, List·getD-eq-default}
-use Rattle.paper.specs.Bytes.{space, spaces, ends}
+use Rattle.paper.specs.Bytes.{space, spaces, ends, letter, wordByte}
 use Rattle.paper.specs.Refusals.{longest}
 use Rattle.paper.proofs.Choice.{either, hit}
-use Rattle.paper.proofs.Runs.{inside, run-short}
+use Rattle.paper.proofs.Runs.{inside, goes-on, run-more, run-short, passed-within}
 use Rattle.reader.specs.declared.Reading.{Reading}
 use Rattle.reader.specs.declared.Reading.the-variants.{Value, Refused}
 use Rattle.reader.specs.Reading.{run, goesOn, no-limit, judged, based, inBase, marked, numbered, reading}
 use Rattle.reader.proofs.Laws.{run-within}
 use Rattle.tokens.specs.declared.Token.{Token}
 use Rattle.tokens.specs.declared.Token.the-variants.{End, Operator, Number, FaultyNumber, Name, Open, Close, Strange}
-use Rattle.tokens.specs.Tokens.{letter, wordByte, Lexeme, lexeme, wordAt, numberBy, fromLess, fromGreater, symbolAt, numeral, startingAt, tokenAt}
-use Rattle.tokens.proofs.Laws.{started, word-more, word-within}
+use Rattle.tokens.specs.Tokens.{Lexeme, lexeme, wordAt, numberBy, fromLess, fromGreater, symbolAt, numeral, startingAt, tokenAt}
 
 -- the tokens that an expression is made of: operators, numbers, names, brackets
 abbrev pub Takes : Token → Type 0
@@ -98,7 +97,7 @@ module _ (text : List ℕ) (at : ℕ) where
 
   word-stands : letter (getD text at 0) ≡ true → at < length text → S (wordAt text at)
   unfolding wordByte
-  word-stands l h = sized _ _ (omega (arith, word-more text at (rw l))) (word-within text at (omega arith))
+  word-stands l h = sized _ _ (omega (arith, run-more wordByte text at h (rw l))) (passed-within wordByte text at (omega arith))
 
   number-stands : (r : Reading) → Reads (length (drop at text)) r → S (numberBy r at)
   number-stands (Value n) r = sized _ _ (r .0) (omega (arith, r .1, length-drop at text))
@@ -135,7 +134,7 @@ module _ (text : List ℕ) (at : ℕ) where
       let c = getD text at 0 in
       either S (ends c) (λ _ t. absurd t)
       (λ n.
-      let h = started text at n in
+      let h = goes-on text at n in
       either S (letter c) (λ l. word-stands l h)
       (λ _. either S (numeral c) (λ _. number-stands (reading (drop at text) false no-limit) (reading-reads (drop at text) false no-limit)) (λ _. symbol-stands h)))
 

@@ -4,7 +4,7 @@ use mathlib.Core.List.{List, [], _∷_}
 use Prim.Native.Nat.{ℕ, suc, _+_}
 use lib.Dec.{eqb}
 use lib.ListN.{getD, take, drop}
-use Rattle.paper.specs.Bytes.{among, spaces, ends}
+use Rattle.paper.specs.Bytes.{among, runOf, spaces, ends, letter, wordByte}
 use Rattle.paper.specs.Texts.{bytes}
 use Rattle.paper.specs.Refusals.{no-digit, bad-base}
 use Rattle.paper.specs.declared.faults.Fault.{Fault}
@@ -20,17 +20,6 @@ use Rattle.arithmetic.specs.declared.operators.Relation.the-variants.{Equal, Un
 use Rattle.arithmetic.specs.declared.operators.Either.the-variants.{Or, Eor}
 use Rattle.tokens.specs.declared.Token.{Token}
 use Rattle.tokens.specs.declared.Token.the-variants.{End, Operator as Operates, Number, FaultyNumber, Name, Open, Close, Strange}
-
-abbrev pub letter : ℕ → Bool
-letter c = among 65 90 c || among 97 122 c
-
--- a name starts with a letter and goes on with letters, digits, "_" and "$"
-unfoldable pub wordByte : ℕ → Bool
-wordByte c = letter c || (among 48 57 c || (eqb c 95 || eqb c 36))
-
-abbrev pub wordRun : List ℕ → ℕ
-wordRun [] = 0
-wordRun (c ∷ cs) = cond (wordByte c) (suc (wordRun cs)) 0
 
 -- a token with its place, and the first place behind it
 pub record Lexeme : Type 0 where
@@ -53,7 +42,7 @@ wordToken word =
 
 abbrev pub wordAt : List ℕ → ℕ → Lexeme
 wordAt text at =
-    let size = wordRun (drop at text) in
+    let size = runOf wordByte (drop at text) in
     lexeme (wordToken (take size (drop at text))) at size
 
 -- the fault that the reader's refusal of a number stands for: it has no other number here

@@ -6,7 +6,7 @@ ghost use lib.ListN.{length, drop};
 ghost use Rattle.tokens.specs.declared.Token.the-variants.{Operator as Operates};
 ghost use Rattle.records.specs.Records.{sameBytes};
 ghost use Rattle.tokens.specs.inner.Steps.{lexemeOf};
-ghost use Rattle.tokens.specs.Tokens.{letter, wordByte, wordRun, lexeme, wordToken, wordAt, faultOf, numberAt, single, fromLess, fromGreater, symbolAt, numeral, startingAt, tokenAt};
+ghost use Rattle.tokens.specs.Tokens.{lexeme, wordToken, wordAt, faultOf, numberAt, single, fromLess, fromGreater, symbolAt, numeral, startingAt, tokenAt};
 use arithmetic::operators::Either;
 use arithmetic::operators::Operator;
 use arithmetic::operators::Product;
@@ -14,10 +14,12 @@ use arithmetic::operators::Relation;
 use arithmetic::operators::Sum;
 use paper::BAD_BASE;
 use paper::NO_DIGIT;
+use paper::bytes::ByteKind;
 use paper::bytes::among;
 use paper::bytes::byte;
 use paper::bytes::is_end;
-use paper::bytes::skip_spaces;
+use paper::bytes::is_letter;
+use paper::bytes::skip;
 use paper::faults::Fault;
 use reader::NO_LIMIT;
 use reader::Reading;
@@ -41,30 +43,6 @@ pub struct Lexed {
     pub token: Token,
     pub place: usize,
     pub next: usize,
-}
-
-fn is_letter(c: u8) -> bool
-    ensures { λ r. ⌜ r ≡ letter c ⌝ }
-{
-    among(b'A', b'Z', c) || among(b'a', b'z', c)
-}
-
-// A byte that a name may go on with.
-fn is_word_byte(c: u8) -> bool
-    ensures { λ r. ⌜ r ≡ wordByte c ⌝ }
-{
-    is_letter(c) || (among(b'0', b'9', c) || (c == b'_' || c == b'$'))
-}
-
-// The first place from `start` on whose byte no name goes on with.
-fn skip_word(text: &[u8], start: usize) -> usize
-    ensures { λ r. ⌜ r ≡ start + wordRun (drop start (now (text .entry))) ⌝ }
-{
-    let mut at = start;
-    while is_word_byte(byte(text, at)) {
-        at += 1;
-    }
-    at
 }
 
 fn spells_two(word: &[u8], a: u8, b: u8) -> bool
@@ -111,7 +89,7 @@ fn word_at(text: &[u8], at: usize) -> Lexed
     requires { ⌜ at ≤ length (now text) ⌝ }
     ensures { λ r. ⌜ lexemeOf r ≡ wordAt (now (text .entry)) at ⌝ }
 {
-    let next = skip_word(text, at);
+    let next = skip(ByteKind::Word, text, at);
     Lexed {
         token: word_token(&text[at..next]),
         place: at,
@@ -270,5 +248,5 @@ fn starting_at(text: &[u8], at: usize) -> Lexed
 pub fn token_at(text: &[u8], at: usize) -> Lexed
     ensures { λ r. ⌜ lexemeOf r ≡ tokenAt (now (text .entry)) at ⌝ }
 {
-    starting_at(text, skip_spaces(text, at))
+    starting_at(text, skip(ByteKind::Space, text, at))
 }

@@ -30,31 +30,31 @@ unfolding numbered
 led text whole limit start n e v = rw (ne-eqb (getD text start 0) 38 n, e, v, cut-in-base, cut-judged)
 
 -- where the start is known: it is inside the text, and `numbered` reads on from there
-module _ (c : tie.After-skip-spaces) where
+module _ (c : tie.After-skip) where
   abbrev text : List ℕ
   text = c .before .before .before .args .text .now
 
   abbrev asked : {A : Type 0} → (List ℕ → Bool → ℕ → A) → A
   asked f = f text (c .before .before .before .args .whole) (c .before .before .before .args .limit)
 
-  begins : c .skip-spaces .result ≡ spaces text
-  begins = c .skip-spaces .ensures ∙ zero-add _
+  begins : c .skip .result ≡ spaces text
+  begins = c .skip .ensures ∙ zero-add _
 
-  start-within : c .skip-spaces .result ≤ length text
+  start-within : c .skip .result ≤ length text
   start-within = omega (arith, begins, run-short space text)
 
-  from-start : asked reading ≡ asked numbered (c .skip-spaces .result)
+  from-start : asked reading ≡ asked numbered (c .skip .result)
   unfolding reading
   from-start = rw (le-ltb _ _ (c .before .if1 .left), ← begins)
 
 -- where the digits at the start are known
 module _ (c : tie.After-run-from) where
-  abbrev start : tie.After-skip-spaces
+  abbrev start : tie.After-skip
   start = c .before .before .before
 
   from-lead :
       asked start reading ≡
-      asked start split (start .skip-spaces .result) (c .run-from .result .end) (c .run-from .result .value)
+      asked start split (start .skip .result) (c .run-from .result .end) (c .run-from .result .value)
   from-lead =
       from-start start ∙
       led _ _ _ _ (λ e. c .before .if2 .left (c .before .before .byte .ensures ∙ e)) (c .run-from .ensures .0) (c .run-from .ensures .1)
@@ -75,7 +75,7 @@ returns-2 c =
 add-in-base : tie.Need-add-in-base
 add-in-base c =
     let s = c .before .before .before .before .before in
-    omega (arith, start-within s, run-within 10 (s .skip-spaces .result) (text s) (start-within s))
+    omega (arith, start-within s, run-within 10 (s .skip .result) (text s) (start-within s))
 
 returns-3 : tie.Need-returns-3
 returns-3 c = rw (c .in-base .ensures, from-lead (c .before .before .before), ← c .before .before .marked .ensures, c .before .if3 .taken)

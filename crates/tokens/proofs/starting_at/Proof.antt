@@ -6,7 +6,8 @@ use borrow.Author.Needs.{needs}
 use lib.ListN.{length}
 use Rattle.paper.proofs.Choice.{hit, skip}
 use Rattle.tokens.specs.Tokens.{startingAt}
-use Rattle.tokens.proofs.Laws.{started, no-bytes}
+use Rattle.paper.proofs.Runs.{goes-on}
+use Rattle.tokens.proofs.Laws.{no-bytes}
 use Rattle.tokens.proofs.starting_at.Statement.{statement}
 use Rattle.tokens.proofs.starting_at.Tie as tie
 
@@ -14,7 +15,7 @@ inside : (c : tie.Else1) → let a = c .before .before .before .before .args in 
 inside c =
     let end = c .before in
     let a = end .before .before .before .args in
-    started (a .text .now) (a .at) (rw (end .before .byte .ensures) at (sym (end .is-end .ensures) ∙ c .if1 .left))
+    goes-on (a .text .now) (a .at) (rw (end .before .byte .ensures) at (sym (end .is-end .ensures) ∙ c .if1 .left))
 
 returns : tie.Need-returns
 unfolding startingAt

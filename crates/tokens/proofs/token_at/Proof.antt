@@ -6,7 +6,7 @@ use Rattle.tokens.proofs.token_at.Statement.{statement}
 use Rattle.tokens.proofs.token_at.Tie as tie
 
 returns : tie.Need-returns
-returns c = c .starting-at .ensures ∙ ap (startingAt _) (c .before .skip-spaces .ensures)
+returns c = c .starting-at .ensures ∙ ap (startingAt _) (c .before .skip .ensures)
 
 pub token-at-spec : {M : Type 1} → statement M
 token-at-spec = tie.close (tie.spec (λ c κs. search needs) (λ c κs. search needs) returns)

@@ -6,26 +6,27 @@ use native.Mathlib.Omega.{arith}
 use borrow.Author.Needs.{needs}
 use lib.ListN.{take, drop}
 use Rattle.tokens.specs.declared.Token.{Token}
-use Rattle.tokens.specs.Tokens.{wordRun, wordToken, wordAt}
-use Rattle.tokens.proofs.Laws.{word-within}
+use Rattle.paper.specs.Bytes.{runOf, wordByte}
+use Rattle.tokens.specs.Tokens.{wordToken, wordAt}
+use Rattle.paper.proofs.Runs.{passed-within}
 use Rattle.tokens.proofs.word_at.Statement.{statement}
 use Rattle.tokens.proofs.word_at.Tie as tie
 
 word :
     (text : List ℕ) (at : ℕ) {token : Token} {next : ℕ} →
-    next ≡ at + wordRun (drop at text) → token ≡ wordToken (take (next - at) (drop at text)) →
+    next ≡ at + runOf wordByte (drop at text) → token ≡ wordToken (take (next - at) (drop at text)) →
     record { token = token; place = at; next = next } ≡ wordAt text at
 word text at {token} {next} n t =
-    let size : next - at ≡ wordRun (drop at text) = omega arith in
+    let size : next - at ≡ runOf wordByte (drop at text) = omega arith in
     ap₂ (λ token next. record { token = token; place = at; next = next }) (t ∙ ap (λ size. wordToken (take size (drop at text))) size) n
 
 part-word-token-end : tie.Need-part-word-token-end
-part-word-token-end c = let a = c .before .before .args in omega (arith, word-within (a .text .now) (a .at) (omega arith))
+part-word-token-end c = let a = c .before .before .args in omega (arith, passed-within wordByte (a .text .now) (a .at) (omega arith))
 
 returns : tie.Need-returns
 returns c =
     let a = c .before .before .before .before .args in
-    word (a .text .now) (a .at) (c .before .before .skip-word .ensures) (c .word-token .ensures)
+    word (a .text .now) (a .at) (c .before .before .skip .ensures) (c .word-token .ensures)
 
 pub word-at-spec : {M : Type 1} → statement M
 word-at-spec =

@@ -18,7 +18,7 @@ returns-2 c =
       c .ended2 .ensures,
       c .before .is-end .ensures,
       c .before .before .byte2 .ensures,
-      spaces .skip-spaces .ensures,
+      spaces .skip .ensures,
       ← spaces .before .before .has .ensures,
       spaces .before .if1 .left,
     )

@@ -36,16 +36,16 @@ module _ (c : tie.After-is-mark) where
   flags = c .before .before .before .before .args .flags .0
 
   abbrev start : ℕ
-  start = c .before .before .skip-spaces .result
+  start = c .before .before .skip .result
 
   begins : start ≡ spaces text
-  begins = c .before .before .skip-spaces .ensures ∙ zero-add _
+  begins = c .before .before .skip .ensures ∙ zero-add _
 
   marked : {b : Bool} → c .is-mark .result ≡ b → (eqb (getD text start 0) 34 && not (quotePlain flags)) ≡ b
   marked e = rw (← c .before .byte .ensures, ← c .is-mark .ensures) e
 
-add-t6 : tie.Need-add-t6
-add-t6 c = omega (arith, begins (c .before), run-short space (text (c .before)))
+add-t7 : tie.Need-add-t7
+add-t7 c = omega (arith, begins (c .before), run-short space (text (c .before)))
 
 returns : tie.Need-returns
 unfolding firstAt modeOf
@@ -68,4 +68,4 @@ returns-2 c =
 pub open-spec : {M : Type 1} → statement M
 open-spec =
     tie.close
-    (tie.spec (λ c κs. search needs) (λ c κs. search needs) (λ c κs. search needs) add-t6 returns returns-2)
+    (tie.spec (λ c κs. search needs) (λ c κs. search needs) (λ c κs. search needs) add-t7 returns returns-2)

@@ -9,11 +9,11 @@ use borrow.Author.Tests.{eq-eqb, ne-eqb, ltb-true}
 use lib.Dec.{ltb, eqb}
 use lib.ListN.{length, getD}
 use Rattle.paper.specs.Bytes.{ends}
-use Rattle.paper.proofs.Runs.{inside}
+use Rattle.paper.proofs.Runs.{inside, not-zero}
 use Rattle.symbols.specs.inner.SymbolSteps.{unmarked, other}
 use Rattle.symbols.specs.Symbols.{active, barred, referred, symbolAt}
 use Rattle.symbols.specs.declared.forms.Mode.{Mode}
-use Rattle.symbols.proofs.Laws.{not-zero, symbol-tested, unmarked-byte}
+use Rattle.symbols.proofs.Laws.{symbol-tested, unmarked-byte}
 use Rattle.symbols.proofs.symbols.symbol_at.Statement.{statement}
 use Rattle.symbols.proofs.symbols.symbol_at.Tie as tie
 

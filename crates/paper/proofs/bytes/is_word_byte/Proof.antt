@@ -1,9 +1,9 @@
 -- `is_word_byte` meets its contract: its tests are the definition's.
 use borrow.Author.Needs.{needs}
 use borrow.Author.Tests.{eq-eqb, ne-eqb}
-use Rattle.tokens.specs.Tokens.{wordByte}
-use Rattle.tokens.proofs.is_word_byte.Statement.{statement}
-use Rattle.tokens.proofs.is_word_byte.Tie as tie
+use Rattle.paper.specs.Bytes.{wordByte}
+use Rattle.paper.proofs.bytes.is_word_byte.Statement.{statement}
+use Rattle.paper.proofs.bytes.is_word_byte.Tie as tie
 
 returns : tie.Need-returns
 unfolding wordByte

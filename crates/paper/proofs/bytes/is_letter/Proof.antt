@@ -1,7 +1,7 @@
 -- `is_letter` meets its contract: its tests are the definition's.
 use borrow.Author.Needs.{needs}
-use Rattle.tokens.proofs.is_letter.Statement.{statement}
-use Rattle.tokens.proofs.is_letter.Tie as tie
+use Rattle.paper.proofs.bytes.is_letter.Statement.{statement}
+use Rattle.paper.proofs.bytes.is_letter.Tie as tie
 
 returns : tie.Need-returns
 returns c = rw (← c .before .among .ensures, c .if1 .taken)
