@@ -12,6 +12,7 @@ use Rattle.paper.proofs.Choice.{clash, below, not-below, other}
 use Rattle.paper.proofs.DemandThree.{refused-number}
 use Rattle.gs.specs.Translations.{refusedAt, translatedBy}
 use Rattle.gs.specs.inner.Steps.{Read, read-ended, read-refused}
+use Rattle.gs.specs.declared.steps.Carried.{Carried}
 use Rattle.gs.specs.declared.steps.Expanded.{Expanded}
 use Rattle.gs.specs.declared.steps.Expanded.the-variants.{Ended, Refused}
 use Rattle.gs.specs.declared.Translated.the-variants.{Written}
@@ -26,14 +27,13 @@ module _ (t : Trace) (size left : ℕ) (lent after : List ℕ) where
   measured-long r (read-ended end left′ runs small laid) = laid .long
   measured-long r (read-refused number place long runs) = long
 
-  pub measured-end : (r : Expanded) (end to left′ : ℕ) → Read t size left 0 lent after r → r ≡ Ended end to left′
-      → (run t left ≡ finished end left′) × (to ≡ length (bytes t))
-  measured-end r end to left′ (read-ended e l runs small laid) h =
+  pub measured-end : (r : Expanded) (end : ℕ) (c : Carried) → Read t size left 0 lent after r → r ≡ Ended end c
+      → (run t left ≡ finished end (c .left)) × (c .to ≡ length (bytes t))
+  measured-end r end c (read-ended e l runs small laid) h =
       let same-end : e ≡ end = cc in
-      let same-left : l ≡ left′ = cc in
-      let same-to : 0 + length (bytes t) ≡ to = cc in
-      (runs ∙ ap₂ finished same-end same-left, sym same-to ∙ zero-add (length (bytes t)))
-  measured-end r end to left′ (read-refused number place long runs) h = clash (cc)
+      let same : record { to = 0 + length (bytes t); left = l } ≡ c = cc in
+      (runs ∙ ap₂ finished same-end (ap (λ (c : Carried). c .left) same), sym (ap (λ (c : Carried). c .to) same) ∙ zero-add (length (bytes t)))
+  measured-end r end c (read-refused number place long runs) h = clash (cc)
 
   pub measured-refused : (r : Expanded) (number place : ℕ) → Read t size left 0 lent after r → r ≡ Refused number place → run t left ≡ refused number place
   measured-refused r number place (read-ended e l runs small laid) h = clash (cc)

@@ -22,13 +22,13 @@ module _ (table : List ℕ) (referred : Referred) (name : List ℕ) (left place 
     abbrev Gives : List ℕ → Progress → Type 0
     Gives after r = Came (pieceOf table expand referred name place) left to out after r
 
-    number-from : (b : ℕ) (after : List ℕ) → Laid out to (b ∷ []) after → Came (pieceOf table expand (Number b) name place) left to out after (Going (to + 1) left)
+    number-from : (b : ℕ) (after : List ℕ) → Laid out to (b ∷ []) after → Came (pieceOf table expand (Number b) name place) left to out after (Going (record { to = to + 1; left = left }))
     unfolding pieceOf
     number-from b after laid = came-going left (b ∷ []) (record { runs = λ rest. refl; gives = λ rest. refl; small = omega arith }) laid
 
-    pub number-gives : (b : ℕ) (after : List ℕ) → referred ≡ Number b → Laid out to (b ∷ []) after → Gives after (Going (to + 1) left)
+    pub number-gives : (b : ℕ) (after : List ℕ) → referred ≡ Number b → Laid out to (b ∷ []) after → Gives after (Going (record { to = to + 1; left = left }))
     number-gives b after e laid =
-        subst (λ r. Came (pieceOf table expand r name place) left to out after (Going (to + 1) left)) (sym e) (number-from b after laid)
+        subst (λ r. Came (pieceOf table expand r name place) left to out after (Going (record { to = to + 1; left = left }))) (sym e) (number-from b after laid)
 
     too-big-from : Came (pieceOf table expand TooBig name place) left to out out (Refused 4 place)
     unfolding pieceOf

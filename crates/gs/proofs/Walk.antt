@@ -17,6 +17,7 @@ use Rattle.references.specs.References.{referredIn}
 use Rattle.symbols.specs.declared.forms.Mode.{Mode}
 use Rattle.symbols.specs.declared.forms.Symbol.{Symbol}
 use Rattle.symbols.specs.declared.forms.Symbol.the-variants.{End, Byte, Reference, Faulty}
+use Rattle.gs.specs.declared.steps.Carried.{Carried}
 use Rattle.gs.specs.declared.steps.Progress.{Progress}
 use Rattle.gs.specs.declared.steps.Progress.the-variants as Progresses
 use Rattle.gs.specs.declared.steps.Expanded.the-variants as Expansions
@@ -31,12 +32,13 @@ pub record Through (piece : Trace → Trace) (left to far left′ : ℕ) (out af
   pub laid : Laid out to given after
 
 module _ (piece : Trace → Trace) (left to : ℕ) (out after : List ℕ) where
-  pub came-through : (r : Progress) (far left′ : ℕ) → Came piece left to out after r → r ≡ Progresses.Going far left′ → Through piece left to far left′ out after
-  came-through r far left′ (came-going l given p laid) e =
-      let same-far : far ≡ to + length given = cc in
-      let same-left : l ≡ left′ = cc in
+  pub came-through : (r : Progress) (c : Carried) → Came piece left to out after r → r ≡ Progresses.Going c → Through piece left to (c .to) (c .left) out after
+  came-through r c (came-going l given p laid) e =
+      let same : record { to = to + length given; left = l } ≡ c = cc in
+      let same-far : c .to ≡ to + length given = sym (ap (λ (c : Carried). c .to) same) in
+      let same-left : l ≡ c .left = ap (λ (c : Carried). c .left) same in
       record { given = given; place = same-far; passes = subst (λ l. Passes piece left l given) same-left p; laid = laid }
-  came-through r far left′ (came-refused number place long refuses) e = clash (cc)
+  came-through r c (came-refused number place long refuses) e = clash (cc)
 
   pub came-to-refusal : (r : Progress) (number place : ℕ) → Came piece left to out after r → r ≡ Progresses.Refused number place
       → (length after ≡ length out) × ((rest : Trace) → run (piece rest) left ≡ refused number place)
@@ -121,12 +123,12 @@ module _ (names : List ℕ → Meaning) (expand : Expand) (text : List ℕ) (fla
             }
 
     pub at-end : (e : TextPlace) → Walk after here far rest → symbolAt text flags mode here ≡ End e
-        → Read trace (length text) left to out after (Expansions.Ended (e .0) far rest)
+        → Read trace (length text) left to out after (Expansions.Ended (e .0) (record { to = far; left = rest }))
     unfolding symbolGives
     at-end e w s =
         let n = next (End e) w s in
         let all : bytes trace ≡ n .given = n .gives ∙ append-nil (n .given) in
-        subst (λ p. Read trace (length text) left to out after (Expansions.Ended (e .0) p rest))
+        subst (λ p. Read trace (length text) left to out after (Expansions.Ended (e .0) (record { to = p; left = rest })))
         (ap (λ l. to + length l) all ∙ sym (n .place))
         (read-ended (e .0) rest (n .runs) (omega (arith, n .small, w .inside, ap length all)) (subst (λ l. Laid out to l after) (sym all) (n .laid)))
 

@@ -9,6 +9,7 @@ ghost use Rattle.gs.specs.Readings.{wholeText, expands};
 ghost use Rattle.gs.specs.inner.Steps.{Came, Read, pieceOf, lengthIn, progressOf};
 ghost use Rattle.gs.specs.declared.steps.Expanded.the-variants as Expanded;
 ghost use Rattle.gs.specs.declared.steps.Progress.the-variants as Progress;
+use crate::steps::Carried;
 use crate::steps::Expanded;
 use crate::steps::Progress;
 use crate::values;
@@ -32,10 +33,10 @@ fn refused_reference(number: u8, place: usize) -> Progress
     Progress::Refused { number, place }
 }
 
-fn ended(end: usize, to: usize, left: u32) -> Expanded
-    ensures { λ r. ⌜ r ≡ Expanded.Ended end to left ⌝ }
+fn ended(end: usize, carried: Carried) -> Expanded
+    ensures { λ r. ⌜ r ≡ Expanded.Ended end carried ⌝ }
 {
-    Expanded::Ended { end, to, left }
+    Expanded::Ended { end, carried }
 }
 
 fn refused_text(number: u8, place: usize) -> Expanded
@@ -51,34 +52,35 @@ fn follow(
     table: &[u8],
     keys: &[u32],
     levels: u8,
-    left: u32,
+    carried: Carried,
     place: usize,
-    to: usize,
     out: &mut [u8],
 ) -> Progress
-    requires { ⌜ (to + 255 * left + 255 ≤ 2 ^ 40) × (lengthIn referred ≤ 255) × Keys (now table) (now keys) ⌝ }
-    ensures { λ r. ⌜ ((name : List ℕ) → Came (pieceOf (now (table .entry)) (expands (namesOf (now (table .entry))) levels) referred name place) left to (now (out .entry)) (now (out .exit)) r) ⌝ }
+    requires { ⌜ (carried .to + 255 * carried .left + 255 ≤ 2 ^ 40) × (lengthIn referred ≤ 255) × Keys (now table) (now keys) ⌝ }
+    ensures { λ r. ⌜ ((name : List ℕ) → Came (pieceOf (now (table .entry)) (expands (namesOf (now (table .entry))) levels) referred name place) (carried .left) (carried .to) (now (out .entry)) (now (out .exit)) r) ⌝ }
 {
     match referred {
         Referred::Number(byte) => {
-            output::put(byte, to, out);
-            Progress::Going { to: to + 1, left }
+            output::put(byte, carried.to, out);
+            Progress::Going(Carried {
+                to: carried.to + 1,
+                left: carried.left,
+            })
         }
         Referred::TooBig => refused_reference(TOO_BIG, place),
         Referred::Unknown => refused_reference(UNKNOWN_NAME, place),
-        Referred::Text(v) => values::give(variables::value_of(table, v), left, place, to, out),
+        Referred::Text(v) => values::give(variables::value_of(table, v), carried, place, out),
         Referred::Integer(v) => values::give_integer(
             variables::value_of(table, v),
-            left,
+            carried,
             place,
-            to,
             out,
         ),
         Referred::Macro(v) => {
             if levels == 0 {
                 return refused_reference(TOO_DEEP, place);
             }
-            if left == 0 {
+            if carried.left == 0 {
                 return refused_reference(ALLOWANCE_SPENT, place);
             }
             let value = variables::value_of(table, v);
@@ -89,8 +91,10 @@ fn follow(
                     keys,
                     Flags::none(),
                     levels - 1,
-                    left - 1,
-                    to,
+                    Carried {
+                        to: carried.to,
+                        left: carried.left - 1,
+                    },
                     out,
                 ),
                 place,
@@ -104,7 +108,7 @@ fn progress_of(came: Expanded, place: usize) -> Progress
     ensures { λ r. ⌜ r ≡ progressOf came place ⌝ }
 {
     match came {
-        Expanded::Ended { end: _, to, left } => Progress::Going { to, left },
+        Expanded::Ended { end: _, carried } => Progress::Going(carried),
         Expanded::Refused { number, place: _ } => refused_reference(number, place),
     }
 }
@@ -117,18 +121,17 @@ pub(crate) fn expand(
     keys: &[u32],
     flags: Flags,
     levels: u8,
-    left: u32,
-    to: usize,
+    carried: Carried,
     out: &mut [u8],
 ) -> Expanded
-    requires { ⌜ (length (now text) ≤ 65535) × (to + length (now text) + 255 * left + 255 ≤ 2 ^ 40) × Keys (now table) (now keys) ⌝ }
-    ensures { λ r. ⌜ Read (wholeText (namesOf (now (table .entry))) (expands (namesOf (now (table .entry))) levels) (now (text .entry)) (flags .0)) (length (now (text .entry))) left to (now (out .entry)) (now (out .exit)) r ⌝ }
+    requires { ⌜ (length (now text) ≤ 65535) × (carried .to + length (now text) + 255 * carried .left + 255 ≤ 2 ^ 40) × Keys (now table) (now keys) ⌝ }
+    ensures { λ r. ⌜ Read (wholeText (namesOf (now (table .entry))) (expands (namesOf (now (table .entry))) levels) (now (text .entry)) (flags .0)) (length (now (text .entry))) (carried .left) (carried .to) (now (out .entry)) (now (out .exit)) r ⌝ }
 {
     let first = open(text, flags);
     let mode = first.mode;
     let mut here = first.at;
-    let mut far = to;
-    let mut rest = left;
+    let mut far = carried.to;
+    let mut rest = carried.left;
     let spaces_end = is_ending_space(flags, mode, b' ');
     loop {
         // Bytes that stand for themselves go over as one run; the symbol behind them is the next that needs a thought.
@@ -138,7 +141,13 @@ pub(crate) fn expand(
         here = run_end;
         let symbol = symbol_at(text, flags, mode, here);
         match symbol {
-            Symbol::End(end) => return ended(end.0, far, rest),
+            Symbol::End(end) => return ended(
+                end.0,
+                Carried {
+                    to: far,
+                    left: rest,
+                },
+            ),
             Symbol::Faulty { fault, at: place } => return refused_text(fault.number(), place.0),
             Symbol::Byte(byte, next) => {
                 output::put(byte, far, out);
@@ -147,11 +156,22 @@ pub(crate) fn expand(
             }
             Symbol::Reference { start, end, next } => {
                 let referred = resolve(&text[start..end], table, keys);
-                let came = follow(referred, table, keys, levels, rest, here, far, out);
+                let came = follow(
+                    referred,
+                    table,
+                    keys,
+                    levels,
+                    Carried {
+                        to: far,
+                        left: rest,
+                    },
+                    here,
+                    out,
+                );
                 match came {
-                    Progress::Going { to: t, left: l } => {
-                        far = t;
-                        rest = l;
+                    Progress::Going(behind) => {
+                        far = behind.to;
+                        rest = behind.left;
                         here = next;
                     }
                     Progress::Refused { number, place } => return refused_text(number, place),

@@ -16,6 +16,7 @@ use paper::OVER_LENGTH;
 use paper::RecordPlace;
 use paper::TextPlace;
 use paper::allowance::cap;
+use steps::Carried;
 use steps::Expanded;
 use symbols::flags::Flags;
 use variables::Checked;
@@ -70,18 +71,20 @@ fn fill(
     ensures buffer { λ r. ⌜ now (out .exit) ≡ leftBy r (bytes (readingOf (now (text .entry)) (now (table .entry)) (flags .0))) (now (out .entry)) ⌝ }
 {
     let room = out.len();
-    let measured = expansion::expand(text, table, keys, flags, LEVELS, left, 0, &mut out[0..0]);
+    let begun = Carried { to: 0, left };
+    let measured = expansion::expand(text, table, keys, flags, LEVELS, begun, &mut out[0..0]);
     match measured {
         Expanded::Refused { number, place } => refused(number, place, 0, room),
-        Expanded::Ended { end, to, left: _ } => {
-            if room < to {
-                return refused(NO_ROOM, 0, to, room);
+        Expanded::Ended { end, carried } => {
+            let need = carried.to;
+            if room < need {
+                return refused(NO_ROOM, 0, need, room);
             }
-            expansion::expand(text, table, keys, flags, LEVELS, left, 0, out);
+            expansion::expand(text, table, keys, flags, LEVELS, begun, out);
             Translated::Written {
                 end: TextPlace(end),
-                need: to,
-                free: room - to,
+                need,
+                free: room - need,
             }
         }
     }

@@ -1,13 +1,19 @@
 // How far a reference and a text come.
 
-// How far a reference came: to the place `to` of the output with `left` look-ups, or to a refusal.
+// What a translation carries along: the bytes that it has given, where the next one goes, and the look-ups that are left.
+pub struct Carried {
+    pub to: usize,
+    pub left: u32,
+}
+
+// How far a reference came: as far as this, or to a refusal.
 pub enum Progress {
-    Going { to: usize, left: u32 },
+    Going(Carried),
     Refused { number: u8, place: usize },
 }
 
 // How far a whole text came: to its end, or to a refusal.
 pub enum Expanded {
-    Ended { end: usize, to: usize, left: u32 },
+    Ended { end: usize, carried: Carried },
     Refused { number: u8, place: usize },
 }

@@ -44,14 +44,14 @@ pub record Passes (piece : Trace → Trace) (left left′ : ℕ) (given : List �
 -- how far a reference came
 pub data Came (piece : Trace → Trace) (left to : ℕ) (out after : List ℕ) : Progress → Type 0 where
   came-going : (left′ : ℕ) (given : List ℕ) → Passes piece left left′ given → Laid out to given after
-      → Came piece left to out after (Progresses.Going (to + length given) left′)
+      → Came piece left to out after (Progresses.Going (record { to = to + length given; left = left′ }))
   came-refused : (number place : ℕ) → length after ≡ length out → ((rest : Trace) → run (piece rest) left ≡ refused number place)
       → Came piece left to out after (Progresses.Refused number place)
 
 -- how far a whole text of a length came
 pub data Read (trace : Trace) (size left to : ℕ) (out after : List ℕ) : Expanded → Type 0 where
   read-ended : (end left′ : ℕ) → run trace left ≡ finished end left′ → length (bytes trace) + 255 * left′ ≤ 255 * left + size
-      → Laid out to (bytes trace) after → Read trace size left to out after (Expansions.Ended end (to + length (bytes trace)) left′)
+      → Laid out to (bytes trace) after → Read trace size left to out after (Expansions.Ended end (record { to = to + length (bytes trace); left = left′ }))
   read-refused : (number place : ℕ) → length after ≡ length out → run trace left ≡ refused number place
       → Read trace size left to out after (Expansions.Refused number place)
 
@@ -79,5 +79,5 @@ lengthIn (Macro v) = v .length
 
 -- how far a macro's reference came, by how far its value did: a refusal inside it has the place of its "<"
 abbrev pub progressOf : Expanded → ℕ → Progress
-progressOf (Expansions.Ended end to left) place = Progresses.Going to left
+progressOf (Expansions.Ended end carried) place = Progresses.Going carried
 progressOf (Expansions.Refused number inner) place = Progresses.Refused number place

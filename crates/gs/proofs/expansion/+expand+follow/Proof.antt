@@ -71,11 +71,11 @@ abbrev follow-below : ℕ → In 3 follow-kinds.ps
 follow-below t = and 3 follow-kinds.ps (falls 3 follow-kinds.ps _<_ μ-follow t) follow.Pre
 
 abbrev expand-Inv-loop : expand-lts.InvT-loop
-expand-Inv-loop text table keys flags levels left to out₀ mode here₀ far₀ rest₀ spaces-end out here far rest =
-    Walk (namesOf table) (expands (namesOf table) levels) text (flags .0) left to out₀ mode out here far rest
+expand-Inv-loop text table keys flags levels out₀ mode here₀ far₀ rest₀ spaces-end out here far rest =
+    Walk (namesOf table) (expands (namesOf table) levels) text (flags .0) rest₀ far₀ out₀ mode out here far rest
 
 abbrev expand-μ-loop : expand-lts.MeasureT-loop
-expand-μ-loop text table keys flags levels left to out₀ mode here₀ far₀ rest₀ spaces-end out here far rest = length text + 1 - here
+expand-μ-loop text table keys flags levels out₀ mode here₀ far₀ rest₀ spaces-end out here far rest = length text + 1 - here
 
 -- what the functions that `expand` calls ask and tell
 abbrev expand-calls : ℕ → expand-lts.Claims
@@ -108,7 +108,7 @@ expand-loop-holds : (t : ℕ) → expand-lts.Need-loop-holds (expand-calls t) (e
 expand-loop-holds t c =
     let a = c .before .before .before .before .before .before .args in
     let names = namesOf (a .table .now) in
-    start names (expands names (a .levels)) (a .text .now) (a .flags .0) (a .left) (a .to) (a .out .now) (c .before .open .result .mode)
+    start names (expands names (a .levels)) (a .text .now) (a .flags .0) (a .carried .left) (a .carried .to) (a .out .now) (c .before .open .result .mode)
     (c .before .open .result .at) (c .before .open .ensures .0) (c .before .open .ensures .1)
 
 -- what the run passes over is a stretch of plain bytes
@@ -168,13 +168,13 @@ module _ (t : ℕ) (c : expand-lts.After-symbol-at (expand-calls t) (expand-at t
 
   expand-walk :
       let a = expand-begun .args in
-      Walk (namesOf (a .table .now)) (expands (namesOf (a .table .now)) (a .levels)) expand-text (a .flags .0) (a .left) (a .to) (a .out .now) expand-mode
+      Walk (namesOf (a .table .now)) (expands (namesOf (a .table .now)) (a .levels)) expand-text (a .flags .0) (a .carried .left) (a .carried .to) (a .out .now) expand-mode
       expand-out expand-here expand-far (expand-turn .loop .rest)
   expand-walk =
       let a = expand-begun .args in
       let names = namesOf (a .table .now) in
       let l = expand-turn .loop in
-      at-run names (expands names (a .levels)) expand-text (a .flags .0) (a .left) (a .to) (a .out .now) expand-mode (l .out) expand-out (l .here) (l .far) (l .rest)
+      at-run names (expands names (a .levels)) expand-text (a .flags .0) (a .carried .left) (a .carried .to) (a .out .now) expand-mode (l .out) expand-out (l .here) (l .far) (l .rest)
       expand-here _ (l .inv) (c .before .before .before .before .before .before .before .before .is-ending-space .ensures) (expand-stretch t expand-passed) (laid-at _ _ _ _ (c .before .before .before .copy .ensures))
 
   -- that an answer is how far the text came
@@ -182,7 +182,7 @@ module _ (t : ℕ) (c : expand-lts.After-symbol-at (expand-calls t) (expand-at t
   expand-read after r =
       let a = expand-begun .args in
       let names = namesOf (a .table .now) in
-      Read (wholeText names (expands names (a .levels)) expand-text (a .flags .0)) (length expand-text) (a .left) (a .to) (a .out .now) after r
+      Read (wholeText names (expands names (a .levels)) expand-text (a .flags .0)) (length expand-text) (a .carried .left) (a .carried .to) (a .out .now) after r
 
   -- where it stands
   expand-stands : (s : Symbol) → c .symbol-at .result ≡ s → Stands (length expand-text) expand-here (quoteOf expand-mode) s
@@ -198,7 +198,7 @@ expand-returns t c =
     let names = namesOf (a .table .now) in
     let rest = expand-turn t s .loop .rest in
     subst (expand-read t s (expand-out t s)) (sym (c .ended .ensures))
-    (at-end names (expands names (a .levels)) (expand-text t s) (a .flags .0) (a .left) (a .to) (a .out .now) (expand-mode t s) (expand-out t s) (expand-here t s) (expand-far t s) rest
+    (at-end names (expands names (a .levels)) (expand-text t s) (a .flags .0) (a .carried .left) (a .carried .to) (a .out .now) (expand-mode t s) (expand-out t s) (expand-here t s) (expand-far t s) rest
     (c .before .before .symbol .given .0 .0) (expand-walk t s) (sym (s .symbol-at .ensures) ∙ c .before .before .symbol .given .1))
 
 expand-returns-2 : (t : ℕ) → expand-lts.Need-returns-2 (expand-calls t) (expand-at t) expand.Post expand-Inv-loop expand-μ-loop
@@ -209,7 +209,7 @@ expand-returns-2 t c =
     let rest = expand-turn t s .loop .rest in
     let faulty = c .before .before .before .symbol2 .given in
     subst (expand-read t s (expand-out t s)) (sym (c .refused-text .ensures ∙ ap (λ n. Refused n (faulty .0 .1 .0 .0)) (c .before .number .ensures)))
-    (at-faulty names (expands names (a .levels)) (expand-text t s) (a .flags .0) (a .left) (a .to) (a .out .now) (expand-mode t s) (expand-out t s) (expand-here t s) (expand-far t s) rest
+    (at-faulty names (expands names (a .levels)) (expand-text t s) (a .flags .0) (a .carried .left) (a .carried .to) (a .out .now) (expand-mode t s) (expand-out t s) (expand-here t s) (expand-far t s) rest
     (faulty .0 .0) (faulty .0 .1 .0) (expand-walk t s) (sym (s .symbol-at .ensures) ∙ faulty .1))
 
 expand-add-far-2 : (t : ℕ) → expand-lts.Need-add-far-2 (expand-calls t) (expand-at t) expand.Post expand-Inv-loop expand-μ-loop
@@ -232,7 +232,7 @@ expand-loop-again t c =
     let rest = expand-turn t s .loop .rest in
     let byte = c .before .before .before .before .before .symbol3 .given in
     let stands = expand-stands t s _ (byte .1) in
-    at-byte names (expands names (a .levels)) (expand-text t s) (a .flags .0) (a .left) (a .to) (a .out .now) (expand-mode t s) (expand-out t s) (expand-here t s) (expand-far t s) rest
+    at-byte names (expands names (a .levels)) (expand-text t s) (a .flags .0) (a .carried .left) (a .carried .to) (a .out .now) (expand-mode t s) (expand-out t s) (expand-here t s) (expand-far t s) rest
     (byte .0 .0) (byte .0 .1 .0) _ (expand-walk t s) (sym (s .symbol-at .ensures) ∙ byte .1) (stands .forward) (stands .within) (laid-at _ _ _ _ (c .before .before .put .ensures))
 
 expand-sub-resolve : (t : ℕ) → expand-lts.Need-sub-resolve (expand-calls t) (expand-at t) expand.Post expand-Inv-loop expand-μ-loop
@@ -278,14 +278,14 @@ expand-loop-again-2 t c =
     let r = c .before .before .before .before .before .before .before .before .before .before .symbol4 .given in
     let name = take (r .0 .1 .0 - r .0 .0) (drop (r .0 .0) (expand-text t s)) in
     let follow = c .before .before .before .before .before .follow in
-    let came = subst (λ k. Came (pieceOf (a .table .now) (expands names (a .levels)) k name (expand-here t s)) rest (expand-far t s) (expand-out t s) (follow .last .1 .1 .1 .1 .1 .1 .1 .0) (follow .result))
+    let came = subst (λ k. Came (pieceOf (a .table .now) (expands names (a .levels)) k name (expand-here t s)) rest (expand-far t s) (expand-out t s) (follow .last .1 .1 .1 .1 .1 .1 .0) (follow .result))
     (c .before .before .before .before .before .before .before .resolve .ensures ∙ by-own-keys (a .table .now) name (a .keys .now) (expand-begun t s .pre .1 .2)) (follow .ensures name) in
     let piece = pieceOf (a .table .now) (expands names (a .levels)) (referredIn (a .table .now) name) name (expand-here t s) in
     let stands = expand-stands t s _ (r .1) in
-    at-reference (a .table .now) (expands names (a .levels)) (expand-text t s) (a .flags .0) (a .left) (a .to) (a .out .now) (expand-mode t s) (expand-out t s) (expand-here t s) (expand-far t s) rest
+    at-reference (a .table .now) (expands names (a .levels)) (expand-text t s) (a .flags .0) (a .carried .left) (a .carried .to) (a .out .now) (expand-mode t s) (expand-out t s) (expand-here t s) (expand-far t s) rest
     (r .0 .0) (r .0 .1 .0) (r .0 .1 .1 .0) (expand-walk t s) (sym (s .symbol-at .ensures) ∙ r .1) _ _ _
     (omega (arith, stands .begins, stands .long, stands .behind)) (stands .within)
-    (came-through piece rest (expand-far t s) (expand-out t s) _ _ _ _ came (c .before .came .given .1))
+    (came-through piece rest (expand-far t s) (expand-out t s) _ _ _ came (c .before .came .given .1))
 
 expand-same-length-3 : (t : ℕ) → expand-lts.Need-same-length-3 (expand-calls t) (expand-at t) expand.Post expand-Inv-loop expand-μ-loop
 expand-same-length-3 t c =
@@ -303,12 +303,12 @@ expand-returns-3 t c =
     let r = k .before .before .before .before .before .before .before .before .before .before .symbol4 .given in
     let name = take (r .0 .1 .0 - r .0 .0) (drop (r .0 .0) (expand-text t s)) in
     let follow = k .before .before .before .before .before .follow in
-    let came = subst (λ k. Came (pieceOf (a .table .now) (expands names (a .levels)) k name (expand-here t s)) rest (expand-far t s) (expand-out t s) (follow .last .1 .1 .1 .1 .1 .1 .1 .0) (follow .result))
+    let came = subst (λ k. Came (pieceOf (a .table .now) (expands names (a .levels)) k name (expand-here t s)) rest (expand-far t s) (expand-out t s) (follow .last .1 .1 .1 .1 .1 .1 .0) (follow .result))
     (k .before .before .before .before .before .before .before .resolve .ensures ∙ by-own-keys (a .table .now) name (a .keys .now) (expand-begun t s .pre .1 .2)) (follow .ensures name) in
     let piece = pieceOf (a .table .now) (expands names (a .levels)) (referredIn (a .table .now) name) name (expand-here t s) in
     let both = came-to-refusal piece rest (expand-far t s) (expand-out t s) _ _ _ _ came (k .before .came2 .given .1) in
-    subst (expand-read t s (follow .last .1 .1 .1 .1 .1 .1 .1 .0)) (sym (c .refused-text2 .ensures))
-    (at-refused (a .table .now) (expands names (a .levels)) (expand-text t s) (a .flags .0) (a .left) (a .to) (a .out .now) (expand-mode t s) (expand-out t s) (expand-here t s) (expand-far t s) rest
+    subst (expand-read t s (follow .last .1 .1 .1 .1 .1 .1 .0)) (sym (c .refused-text2 .ensures))
+    (at-refused (a .table .now) (expands names (a .levels)) (expand-text t s) (a .flags .0) (a .carried .left) (a .carried .to) (a .out .now) (expand-mode t s) (expand-out t s) (expand-here t s) (expand-far t s) rest
     (r .0 .0) (r .0 .1 .0) (r .0 .1 .1 .0) (expand-walk t s) (sym (s .symbol-at .ensures) ∙ r .1) _ _ _ (both .0) (both .1))
 
 -- what the functions that `follow` calls ask and tell
@@ -348,63 +348,63 @@ follow-returns t c name =
     let a = c .before .before .before .before .before .before .before .before .args in
     let names = namesOf (a .table .now) in
     let k = c .before .before .before .referred4 .given in
-    too-deep-gives (a .table .now) (a .referred) name (a .left) (a .place) (a .to) (a .out .now) names (a .levels) (k .0 .0) (k .1) _ (c .before .if1 .taken) (c .refused-reference3 .ensures)
+    too-deep-gives (a .table .now) (a .referred) name (a .carried .left) (a .place) (a .carried .to) (a .out .now) names (a .levels) (k .0 .0) (k .1) _ (c .before .if1 .taken) (c .refused-reference3 .ensures)
 
 follow-returns-2 : (t : ℕ) → follow-lts.Need-returns-2 (follow-calls t) (follow-at t) follow.Post
 follow-returns-2 t c name =
-    let a = c .before .before .before .before .before .before .before .before .before .args in
+    let a = c .before .before .before .before .before .before .before .before .before .before .args in
     let names = namesOf (a .table .now) in
-    let k = c .before .before .before .before .referred4 .given in
-    spent-gives (a .table .now) (a .referred) name (a .left) (a .place) (a .to) (a .out .now) names (a .levels) (k .0 .0) (k .1) _ (c .before .before .if1 .left) (c .before .if2 .taken) (c .refused-reference4 .ensures)
+    let k = c .before .before .before .before .before .referred4 .given in
+    spent-gives (a .table .now) (a .referred) name (a .carried .left) (a .place) (a .carried .to) (a .out .now) names (a .levels) (k .0 .0) (k .1) _ (c .before .before .before .if1 .left) (c .before .if2 .taken) (c .refused-reference4 .ensures)
 
 follow-expand-requires : (t : ℕ) → follow-lts.Need-expand-requires (follow-calls t) (follow-at t) follow.Post
 follow-expand-requires t c κs =
-    let k = c .before .before .before .before .before .before .referred4 .given in
-    let short = part-short (c .before .before .before .before .before .before .before .before .before .before .before .args .table .now) _ (k .0 .0) (c .before .before .value-of3 .ensures) (subst (λ r. lengthIn r ≤ 255) (k .1) (c .before .before .before .before .before .before .before .before .before .before .before .pre .1 .1)) in
-    (omega (arith, c .before .before .before .before .before .before .before .before .before .before .before .pre .0, c .before .before .before .before .if1 .left), (omega (arith, short), omega (arith, short, c .before .before .before .before .before .before .before .before .before .before .before .pre .1 .0, c .before .before .before .if2 .left), c .before .before .before .before .before .before .before .before .before .before .before .pre .1 .2))
+    let k = c .before .before .before .before .before .before .before .before .referred4 .given in
+    let short = part-short (c .before .before .before .before .before .before .before .before .before .before .before .before .before .args .table .now) _ (k .0 .0) (c .before .before .before .value-of3 .ensures) (subst (λ r. lengthIn r ≤ 255) (k .1) (c .before .before .before .before .before .before .before .before .before .before .before .before .before .pre .1 .1)) in
+    (omega (arith, c .before .before .before .before .before .before .before .before .before .before .before .before .before .pre .0, c .before .before .before .before .before .before .if1 .left), (omega (arith, short), omega (arith, short, c .before .before .before .before .before .before .before .before .before .before .before .before .before .pre .1 .0, c .before .before .before .before .if2 .left), c .before .before .before .before .before .before .before .before .before .before .before .before .before .pre .1 .2))
 
 follow-returns-3 : (t : ℕ) → follow-lts.Need-returns-3 (follow-calls t) (follow-at t) follow.Post
 follow-returns-3 t c name =
-    let a = c .before .before .before .before .before .before .before .before .before .before .args in
+    let a = c .before .before .before .before .before .before .before .before .before .before .before .args in
     let names = namesOf (a .table .now) in
-    let k = c .before .before .before .before .before .referred .given in
-    number-gives (a .table .now) (a .referred) name (a .left) (a .place) (a .to) (a .out .now) (expands names (a .levels)) (k .0 .0) _ (k .1) (laid-at _ _ _ _ (c .before .before .put .ensures))
+    let k = c .before .before .before .before .before .before .referred .given in
+    number-gives (a .table .now) (a .referred) name (a .carried .left) (a .place) (a .carried .to) (a .out .now) (expands names (a .levels)) (k .0 .0) _ (k .1) (laid-at _ _ _ _ (c .before .before .before .put .ensures))
 
 follow-returns-4 : (t : ℕ) → follow-lts.Need-returns-4 (follow-calls t) (follow-at t) follow.Post
 follow-returns-4 t c name =
     let a = c .before .before .before .before .before .before .args in
     let names = namesOf (a .table .now) in
-    too-big-gives (a .table .now) (a .referred) name (a .left) (a .place) (a .to) (a .out .now) (expands names (a .levels)) _ (c .before .enum-told .given .1) (c .refused-reference .ensures)
+    too-big-gives (a .table .now) (a .referred) name (a .carried .left) (a .place) (a .carried .to) (a .out .now) (expands names (a .levels)) _ (c .before .enum-told .given .1) (c .refused-reference .ensures)
 
 follow-returns-5 : (t : ℕ) → follow-lts.Need-returns-5 (follow-calls t) (follow-at t) follow.Post
 follow-returns-5 t c name =
     let a = c .before .before .before .before .before .before .args in
     let names = namesOf (a .table .now) in
-    unknown-gives (a .table .now) (a .referred) name (a .left) (a .place) (a .to) (a .out .now) (expands names (a .levels)) _ (c .before .enum-told2 .given .1) (c .refused-reference2 .ensures)
+    unknown-gives (a .table .now) (a .referred) name (a .carried .left) (a .place) (a .carried .to) (a .out .now) (expands names (a .levels)) _ (c .before .enum-told2 .given .1) (c .refused-reference2 .ensures)
 
 follow-returns-6 : (t : ℕ) → follow-lts.Need-returns-6 (follow-calls t) (follow-at t) follow.Post
 follow-returns-6 t c name =
     let a = c .before .before .before .before .before .before .before .before .before .before .before .args in
     let names = namesOf (a .table .now) in
     let k = c .before .before .before .before .before .before .referred2 .given in
-    text-gives (a .table .now) (a .referred) name (a .left) (a .place) (a .to) (a .out .now) (expands names (a .levels)) (k .0 .0) _ _ _ (k .1) (c .before .before .before .before .value-of .ensures) (c .before .before .give .ensures name)
+    text-gives (a .table .now) (a .referred) name (a .carried .left) (a .place) (a .carried .to) (a .out .now) (expands names (a .levels)) (k .0 .0) _ _ _ (k .1) (c .before .before .before .before .value-of .ensures) (c .before .before .give .ensures name)
 
 follow-returns-7 : (t : ℕ) → follow-lts.Need-returns-7 (follow-calls t) (follow-at t) follow.Post
 follow-returns-7 t c name =
     let a = c .before .before .before .before .before .before .before .before .before .before .before .args in
     let names = namesOf (a .table .now) in
     let k = c .before .before .before .before .before .before .referred3 .given in
-    integer-gives (a .table .now) (a .referred) name (a .left) (a .place) (a .to) (a .out .now) (expands names (a .levels)) (k .0 .0) _ _ _ (k .1) (c .before .before .before .before .value-of2 .ensures) (c .before .before .give-integer .ensures name)
+    integer-gives (a .table .now) (a .referred) name (a .carried .left) (a .place) (a .carried .to) (a .out .now) (expands names (a .levels)) (k .0 .0) _ _ _ (k .1) (c .before .before .before .before .value-of2 .ensures) (c .before .before .give-integer .ensures name)
 
 follow-returns-8 : (t : ℕ) → follow-lts.Need-returns-8 (follow-calls t) (follow-at t) follow.Post
 follow-returns-8 t c name =
-    let a = c .before .before .before .before .before .before .before .before .before .before .before .before .before .before .before .args in
+    let a = c .before .before .before .before .before .before .before .before .before .before .before .before .before .before .before .before .before .args in
     let names = namesOf (a .table .now) in
-    let k = c .before .before .before .before .before .before .before .before .before .before .referred4 .given in
-    let short = part-short (a .table .now) _ (k .0 .0) (c .before .before .before .before .before .before .value-of3 .ensures) (subst (λ r. lengthIn r ≤ 255) (k .1) (c .before .before .before .before .before .before .before .before .before .before .before .before .before .before .before .pre .1 .1)) in
-    value-gives (a .table .now) (a .referred) name (a .left) (a .place) (a .to) (a .out .now) names (a .levels) (k .0 .0) (k .1) _ _ _ _ (c .before .before .before .before .before .before .before .before .if1 .left) (c .before .before .before .before .before .before .before .if2 .left) (c .before .before .before .before .before .before .value-of3 .ensures) short
-    (subst (λ f. Read (wholeText names (expands names (a .levels - 1)) (now (c .before .before .before .before .before .before .value-of3 .result)) f) (length (now (c .before .before .before .before .before .before .value-of3 .result))) (a .left - 1) (a .to) (a .out .now) (c .before .before .before .expand .last .1 .1 .1 .1 .1 .1 .1 .0) (c .before .before .before .expand .result))
-    (c .before .before .before .before .before .none .ensures) (c .before .before .before .expand .ensures))
+    let k = c .before .before .before .before .before .before .before .before .before .before .before .before .referred4 .given in
+    let short = part-short (a .table .now) _ (k .0 .0) (c .before .before .before .before .before .before .before .value-of3 .ensures) (subst (λ r. lengthIn r ≤ 255) (k .1) (c .before .before .before .before .before .before .before .before .before .before .before .before .before .before .before .before .before .pre .1 .1)) in
+    value-gives (a .table .now) (a .referred) name (a .carried .left) (a .place) (a .carried .to) (a .out .now) names (a .levels) (k .0 .0) (k .1) _ _ _ _ (c .before .before .before .before .before .before .before .before .before .before .if1 .left) (c .before .before .before .before .before .before .before .before .if2 .left) (c .before .before .before .before .before .before .before .value-of3 .ensures) short
+    (subst (λ f. Read (wholeText names (expands names (a .levels - 1)) (now (c .before .before .before .before .before .before .before .value-of3 .result)) f) (length (now (c .before .before .before .before .before .before .before .value-of3 .result))) (a .carried .left - 1) (a .carried .to) (a .out .now) (c .before .before .before .expand .last .1 .1 .1 .1 .1 .1 .0) (c .before .before .before .expand .result))
+    (c .before .before .before .before .before .before .none .ensures) (c .before .before .before .expand .ensures))
     (c .progress-of .ensures)
 
 pub +expand+follow-spec : {M : Type 1} → statement M

@@ -21,7 +21,7 @@ module _ (given out name : List ℕ) (left place to : ℕ) where
   none-left h = came-refused 12 place refl (λ rest. ap (run (asks name (spends place (givesAll given rest)))) h)
 
   some-left : (after : List ℕ) → (left ≡ 0 → ⊥) → length given ≤ 255 → Laid out to given after
-      → Came (λ rest. asks name (spends place (givesAll given rest))) left to out after (Going (to + length given) (left - 1))
+      → Came (λ rest. asks name (spends place (givesAll given rest))) left to out after (Going (record { to = to + length given; left = left - 1 }))
   some-left after h small laid =
       let back : suc (left - 1) ≡ left = omega arith in
       came-going (left - 1) given
@@ -30,13 +30,13 @@ module _ (given out name : List ℕ) (left place to : ℕ) where
 
 returns : tie.Need-returns
 returns c name =
-    let a = c .before .before .before .args in
-    none-left (a .given .now) (a .out .now) name (a .left) (a .place) (a .to) (c .if1 .taken)
+    let a = c .before .before .before .before .args in
+    none-left (a .given .now) (a .out .now) name (a .carried .left) (a .place) (a .carried .to) (c .if1 .taken)
 
 returns-2 : tie.Need-returns-2
 returns-2 c name =
-    let a = c .before .before .before .before .before .before .before .args in
-    some-left (a .given .now) (a .out .now) name (a .left) (a .place) (a .to) _ (c .before .before .before .before .if1 .left) (c .before .before .before .before .before .before .before .pre .0) (laid-at _ _ _ _ (c .before .before .copy .ensures))
+    let a = c .before .before .before .before .before .before .before .before .before .before .args in
+    some-left (a .given .now) (a .out .now) name (a .carried .left) (a .place) (a .carried .to) _ (c .before .before .before .before .before .before .if1 .left) (c .before .before .before .before .before .before .before .before .before .before .pre .0) (laid-at _ _ _ _ (c .before .before .before .before .copy .ensures))
 
 pub give-spec : {M : Type 1} → statement M
 give-spec =

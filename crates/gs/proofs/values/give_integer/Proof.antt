@@ -35,7 +35,7 @@ returns c name =
     let g = c .before .before in
     let w = g .before .before .before .before in
     let a = w .before .before .before .before .before .args in
-    subst (λ bs. Came (λ rest. asks name (spends (a .place) (givesAll bs rest))) (a .left) (a .to) (a .out .now) (g .give .last .1 .1 .1 .1 .0) (g .give .result))
+    subst (λ bs. Came (λ rest. asks name (spends (a .place) (givesAll bs rest))) (a .carried .left) (a .carried .to) (a .out .now) (g .give .last .1 .1 .1 .0) (g .give .result))
     (lent w ∙ ap decimalOf (w .before .before .pattern-of .ensures))
     (g .give .ensures name)
 
