@@ -20,21 +20,12 @@ inside [] at h = omega arith
 inside (x ∷ xs) zero h = omega arith
 inside (x ∷ xs) (suc at) h = omega (arith, inside xs at h)
 
--- a byte that passes a test which zero does not pass stands inside the text
-pub passed-inside : (test : ℕ → Bool) (text : List ℕ) (at : ℕ) → test 0 ≡ false → test (getD text at 0) ≡ true → at < length text
-passed-inside test text at without passes = inside text at (go (getD text at 0) passes) where
-  go : (c : ℕ) → test c ≡ true → 0 < c
-  go zero e = clash (cc)
-  go (suc c) e = omega arith
-
--- the zero is of no kind, so a byte of one stands inside the text
-pub kind-inside : (kind : ByteKind) (text : List ℕ) (at : ℕ) → ofKind kind (getD text at 0) ≡ true → at < length text
+-- the zero is of no kind
+pub of-none : (kind : ByteKind) → ofKind kind 0 ≡ false
 unfolding nameByte wordByte
-kind-inside kind text at h = passed-inside (ofKind kind) text at (of-none kind) h where
-  of-none : (kind : ByteKind) → ofKind kind 0 ≡ false
-  of-none Space = refl
-  of-none Name = refl
-  of-none Word = refl
+of-none Space = refl
+of-none Name = refl
+of-none Word = refl
 
 -- a byte at which no text ends is not zero, and stands inside the text
 pub not-zero : (c : ℕ) → ends c ≡ false → 0 < c

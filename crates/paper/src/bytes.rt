@@ -74,12 +74,16 @@ impl ByteKind {
     }
 }
 
-// The first place from `start` on whose byte is not of a kind. A zero, which is of none, stands past the slice's end.
+// The first place from `start` on whose byte is not of a kind, or the slice's end. The end is tested for by itself, so that whoever reads
+// on from there need not test for it again.
 pub fn skip(kind: ByteKind, text: &[u8], start: usize) -> usize
     ensures { λ r. ⌜ r ≡ start + runOf (ofKind kind) (drop start (now (text .entry))) ⌝ }
 {
     let mut at = start;
-    while kind.has(byte(text, at)) {
+    while at < text.len() {
+        if !kind.has(text[at]) {
+            return at;
+        }
         at += 1;
     }
     at

@@ -1,15 +1,16 @@
 -- `skip` meets its contract. The loop's invariant: the bytes passed and the run from there on are the run from the start on. The
 -- measure is what is left of the length.
-use mathlib.Core.Bool.{Bool}
+use mathlib.Core.Bool.{Bool, false}
 use mathlib.Core.List.{List}
 use mathlib.Core.Path.{_≡_, refl, sym, ap, _∙_}
-use Prim.Native.Nat.{ℕ, _+_, _-_, _<_}
+use Prim.Native.Nat.{ℕ, _+_, _-_, _≤_}
 use native.Mathlib.Omega.{arith}
 use borrow.Author.Needs.{needs}
-use lib.ListN.{length, getD, drop}
+use borrow.Author.Tests.{not-true, not-false}
+use lib.ListN.{length, getD, drop, List·getD-eq-default}
 use Rattle.paper.specs.Bytes.{runOf, ofKind}
 use Rattle.paper.specs.declared.bytes.ByteKind.{ByteKind}
-use Rattle.paper.proofs.Runs.{kind-inside, run-more, run-none}
+use Rattle.paper.proofs.Runs.{of-none, run-more, run-none}
 use Rattle.paper.proofs.bytes.skip.Statement.{statement}
 use Rattle.paper.proofs.bytes.skip.Tie as tie
 
@@ -19,38 +20,30 @@ Inv-loop kind text start at₀ at = start + runOf (ofKind kind) (drop start text
 abbrev μ-loop : tie.MeasureT-loop
 μ-loop kind text start at₀ at = length text - at
 
--- where the byte at hand is judged
-module _ (c : tie.After-has Inv-loop μ-loop) where
-  abbrev text : List ℕ
-  text = c .before .before .before .before .args .text .now
-
-  abbrev kind : ByteKind
-  kind = c .before .before .before .before .args .kind
-
-  abbrev at : ℕ
-  at = c .before .before .loop .at
-
-  judged : {b : Bool} → c .has .result ≡ b → ofKind kind (getD text at 0) ≡ b
-  judged e = ap (ofKind kind) (sym (c .before .byte .ensures)) ∙ (sym (c .has .ensures) ∙ e)
-
-further : (c : tie.Then1 Inv-loop μ-loop) → at (c .before) < length (text (c .before))
-further c = kind-inside (kind (c .before)) (text (c .before)) (at (c .before)) (judged (c .before) (c .if1 .taken))
-
 loop-holds : tie.Need-loop-holds Inv-loop μ-loop
 loop-holds c = refl
 
-add-at : tie.Need-add-at Inv-loop μ-loop
-add-at c = omega (arith, further c)
-
-loop-less : tie.Need-loop-less Inv-loop μ-loop
-loop-less c = omega (arith, further c)
+returns : tie.Need-returns Inv-loop μ-loop
+returns c =
+    let a = c .before .before .before .before .before .before .args in
+    let l = c .before .before .before .before .loop in
+    omega (arith, l .inv, run-none (ofKind (a .kind)) (a .text .now) (l .at) (sym (c .before .has .ensures) ∙ not-true _ (c .if1 .taken)))
 
 loop-again : tie.Need-loop-again Inv-loop μ-loop
 loop-again c =
-    omega (arith, run-more (ofKind (kind (c .before))) (text (c .before)) (at (c .before)) (further c) (judged (c .before) (c .if1 .taken)))
+    let a = c .before .before .before .before .before .before .args in
+    let l = c .before .before .before .before .loop in
+    omega (arith, l .inv, run-more (ofKind (a .kind)) (a .text .now) (l .at) (omega arith) (sym (c .before .has .ensures) ∙ not-false _ (c .if1 .left)))
 
-returns : tie.Need-returns Inv-loop μ-loop
-returns c = omega (arith, run-none (ofKind (kind (c .before))) (text (c .before)) (at (c .before)) (judged (c .before) (c .if1 .left)))
+-- past the end no byte is of a kind
+past : (kind : ByteKind) (text : List ℕ) (at : ℕ) → length text ≤ at → runOf (ofKind kind) (drop at text) ≡ 0
+past kind text at h = run-none (ofKind kind) text at (ap (ofKind kind) (List·getD-eq-default text 0 h) ∙ of-none kind)
+
+returns-2 : tie.Need-returns-2 Inv-loop μ-loop
+returns-2 c =
+    let a = c .before .before .before .args in
+    let l = c .before .loop in
+    omega (arith, l .inv, past (a .kind) (a .text .now) (l .at) (omega arith))
 
 pub skip-spec : {M : Type 1} → statement M
 skip-spec =
@@ -59,9 +52,10 @@ skip-spec =
     Inv-loop
     μ-loop
     loop-holds
+    (λ c. search needs)
     (λ c κs. search needs)
-    (λ c κs. search needs)
-    add-at
-    loop-less
+    returns
+    (λ c. search needs)
+    (λ c. search needs)
     loop-again
-    returns)
+    returns-2)
