@@ -6,24 +6,21 @@ use Prim.Native.Nat.{ℕ, zero, suc, _+_, _-_, _<_, _≤_}
 use native.Mathlib.Omega.{arith}
 use lib.Dec.{eqb}
 use lib.ListN.{length}
-use Rattle.paper.specs.Traces.{Run, finished, refused, run, ended}
-use Rattle.paper.proofs.Choice.{either}
+use Rattle.paper.proofs.Choice.{either, clash}
 use Rattle.variables.specs.Names.{Meaning}
 use Rattle.arithmetic.specs.Operators.{divides}
 use Rattle.tokens.specs.Tokens.{tokenAt}
 use Rattle.parts.specs.Links.{binds, none, linkBy, linkAt}
 use Rattle.expressions.specs.Trees.{Tree, Parsed, tree, faulty, joined, extended, operatorsFrom, levelAt, operandAt}
-use Rattle.expressions.specs.Evaluations.{treeValue, steps}
 use Rattle.parts.specs.inner.Steps.{accountOf, appliedPart, joinedPart, linkBehind}
-use Rattle.expressions.specs.inner.Steps.{partBy, partOf}
+use Rattle.expressions.specs.inner.Steps.{partOf}
 use Rattle.arithmetic.specs.declared.operators.Operator.{Operator}
 use Rattle.parts.specs.declared.Account.{Account}
-use Rattle.parts.specs.declared.Account.the-variants.{Open, Refused as RefusedBefore}
 use Rattle.parts.specs.declared.Part.{Part}
 use Rattle.parts.specs.declared.Part.the-variants.{Value, Refused, Faulty}
 use Rattle.tokens.proofs.Places.{past-end}
 use Rattle.expressions.proofs.Onward.{Onward, binds-onward, level-onward, operand-onward}
-use Rattle.expressions.proofs.Joins.{part-link, part-joined}
+use Rattle.expressions.proofs.Joins.{tree-part, part-link, part-joined}
 
 -- what remains of a text of so many bytes behind a part
 abbrev pub remaining : ℕ → Part → ℕ
@@ -32,7 +29,7 @@ remaining size (Refused number place next) = suc size - next
 remaining size (Faulty fault place) = 0
 
 no-binding : (operator : Operator) (place next : ℕ) → none ≡ binds operator place next → ⊥
-no-binding operator place next e = let z : _≡_ {A = ℕ} 0 1 = cc in omega arith
+no-binding operator place next e = clash (cc)
 
 module _ (names : List ℕ → Meaning) (text : List ℕ) (tighter levels : ℕ) where
   abbrev below : ℕ → Parsed
@@ -101,7 +98,7 @@ module _ (names : List ℕ → Meaning) (text : List ℕ) (tighter levels : ℕ)
         further : (p : Parsed) → Onward text next p → (t : Tree) (n : ℕ) → joined operator place lhs p ≡ tree t n
             → (here < next) × (next ≤ length text) → length text < suc more + here → length text < more + n
         further (tree r m) o t n j b h = let same : m ≡ n = cc in omega (arith, o .ends r m refl)
-        further (faulty fault p) o t n j b h = let z : _≡_ {A = ℕ} 0 1 = cc in absurd (omega arith)
+        further (faulty fault p) o t n j b h = clash (cc)
 
     -- an operator of the level behind the part: both with it are the part so far
     pub goes-on : (part rhs new : Part) (behind : Account) → Chain account at part → Behind-it part → behind ≡ accountOf part
@@ -115,12 +112,9 @@ module _ (names : List ℕ → Meaning) (text : List ℕ) (tighter levels : ℕ)
   part-remaining : (account : Account) (here next : ℕ) (parsed : Parsed) → Onward text next parsed → here < next → next ≤ length text
       → remaining (length text) (partOf names account parsed) < suc (length text) - here
   part-remaining account here next (faulty fault p) o h w = omega arith
-  part-remaining (RefusedBefore number p) here next (tree t n) o h w = omega (arith, o .ends t n refl)
-  part-remaining (Open left) here next (tree t n) o h w = by (run (steps names t (ended 0)) left)
-    where
-      by : (r : Run) → remaining (length text) (partBy r (treeValue names t) n) < suc (length text) - here
-      by (finished end left′) = omega (arith, o .ends t n refl)
-      by (refused number p) = omega (arith, o .ends t n refl)
+  part-remaining account here next (tree t n) o h w =
+      let falls = o .ends t n refl in
+      tree-part names (λ p. remaining (length text) p < suc (length text) - here) account t n (λ left. omega arith) (λ number p. omega arith)
 
   joined-remaining : (size : ℕ) (operator : Operator) (place : ℕ) (lhs rhs : Part) → remaining size (joinedPart operator place lhs rhs) ≤ remaining size rhs
   unfolding appliedPart

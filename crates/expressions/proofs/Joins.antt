@@ -6,22 +6,22 @@ use Prim.Native.Nat.{ℕ, zero, suc}
 use lib.Dec.{eqb}
 use Rattle.paper.specs.Refusals.{zero-divisor}
 use Rattle.paper.specs.Traces.{Trace, Run, finished, refused, run, ended as end-at, faults}
-use Rattle.paper.specs.declared.faults.Fault.the-variants.{ZeroDivisor}
+use Rattle.paper.specs.declared.faults.Fault.the-variants.{BadExpression, ZeroDivisor}
 use Rattle.variables.specs.Names.{Meaning, unknown, string-of, integer-of, macro-of}
 use Rattle.arithmetic.specs.Operators.{divides}
 use Rattle.tokens.specs.Tokens.{Lexeme, tokenAt}
-use Rattle.parts.specs.Links.{linkAt}
-use Rattle.expressions.specs.Trees.{Tree, constant, variable, unary, binary, Parsed, tree, faulty, joined, covered, closedBy, endedBy, closedTree, endedTree}
+use Rattle.parts.specs.Links.{linkAt, wants}
+use Rattle.expressions.specs.Trees.{Tree, constant, variable, unary, binary, Parsed, tree, faulty, joined, covered, treeUpTo}
 use Rattle.expressions.specs.Evaluations.{nameSteps, divided, treeValue, steps, evaluation, result}
 use Rattle.expressions.specs.Answers.{evaluatedBy}
-use Rattle.parts.specs.inner.Steps.{accountOf, movedTo, coveredPart, appliedPart, joinedPart, linkBehind, closedPartBy, closedPart, endedPartBy, endedPart}
+use Rattle.parts.specs.inner.Steps.{accountOf, movedTo, coveredPart, appliedPart, joinedPart, linkBehind, upToBy, partUpTo}
 use Rattle.expressions.specs.inner.Steps.{partBy, partOf, answerOf}
 use Rattle.arithmetic.specs.declared.operators.Operator.{Operator}
-use Rattle.tokens.specs.declared.Token.{Token}
-use Rattle.tokens.specs.declared.Token.the-variants.{End, Operator as Operates, Number, FaultyNumber, Name, Open as Bracket, Close, Strange}
 use Rattle.parts.specs.declared.Account.{Account}
 use Rattle.parts.specs.declared.Account.the-variants.{Open, Refused as RefusedBefore}
-use Rattle.parts.specs.declared.Part.the-variants.{Value, Refused}
+use Rattle.parts.specs.declared.behind.Wanted.{Wanted}
+use Rattle.parts.specs.declared.Part.{Part}
+use Rattle.parts.specs.declared.Part.the-variants.{Value, Refused, Faulty}
 
 -- behind a run that finished the rest is run with the look-ups left
 abbrev continued : Run → Trace → Run
@@ -64,6 +64,17 @@ module _ (names : List ℕ → Meaning) where
       ∙ ap (λ x. continued x rest) (sym (steps-run rhs m (last (end-at 0)))))
       ∙ ap (λ x. continued x rest) (sym (steps-run lhs left (steps names rhs (last (end-at 0)))))
 
+  -- the part of a tree is a value, or the evaluation is refused
+  pub tree-part : (P : Part → Type 0) (account : Account) (inner : Tree) (at : ℕ)
+      → ((left : ℕ) → P (Value (treeValue names inner) left at)) → ((number place : ℕ) → P (Refused number place at))
+      → P (partOf names account (tree inner at))
+  tree-part P (RefusedBefore number place) inner at v r = r number place
+  tree-part P (Open left) inner at v r = by (run (steps names inner (end-at 0)) left)
+    where
+      by : (x : Run) → P (partBy x (treeValue names inner) at)
+      by (finished end left′) = v left′
+      by (refused number place) = r number place
+
   part-moved : (account : Account) (inner : Tree) (at next : ℕ) → movedTo next (partOf names account (tree inner at)) ≡ partOf names account (tree inner next)
   part-moved (RefusedBefore number place) inner at next = refl
   part-moved (Open left) inner at next = by (run (steps names inner (end-at 0)) left)
@@ -84,12 +95,7 @@ module _ (names : List ℕ → Meaning) where
 
   pub part-link : (text : List ℕ) (level : ℕ) (account : Account) (inner : Tree) (at : ℕ)
       → linkBehind text level (partOf names account (tree inner at)) ≡ linkAt text level at
-  part-link text level (RefusedBefore number place) inner at = refl
-  part-link text level (Open left) inner at = by (run (steps names inner (end-at 0)) left)
-    where
-      by : (r : Run) → linkBehind text level (partBy r (treeValue names inner) at) ≡ linkAt text level at
-      by (finished end left′) = refl
-      by (refused number place) = refl
+  part-link text level account inner at = tree-part (λ p. linkBehind text level p ≡ linkAt text level at) account inner at (λ left. refl) (λ number place. refl)
 
   -- two operands, the right one evaluated behind the left one
   module _ (operator : Operator) (place : ℕ) (lhs rhs : Tree) (next : ℕ) where
@@ -128,52 +134,20 @@ module _ (names : List ℕ → Meaning) where
       ∙ ap (λ x. partBy x (treeValue names (binary operator place lhs rhs)) next)
       (sym (steps-run lhs left (steps names rhs (divided operator place (treeValue names rhs) (end-at 0)))))
 
-  module _ (account : Account) (inner : Tree) (here : ℕ) where
-    closed-by : (token : Token) (place next : ℕ)
-        → closedPartBy (partOf names account (tree inner here)) token place next ≡ partOf names account (closedBy inner token place next)
-    closed-by Close place next = part-moved account inner here next
-    closed-by End place next = refl
-    closed-by (Operates operator) place next = refl
-    closed-by (Number value) place next = refl
-    closed-by (FaultyNumber fault digit) place next = refl
-    closed-by Name place next = refl
-    closed-by Bracket place next = refl
-    closed-by Strange place next = refl
-
-    ended-by : (token : Token) (place : ℕ) → endedPartBy (partOf names account (tree inner here)) token place ≡ partOf names account (endedBy inner token place)
-    ended-by End place = part-moved account inner here place
-    ended-by Close place = refl
-    ended-by (Operates operator) place = refl
-    ended-by (Number value) place = refl
-    ended-by (FaultyNumber fault digit) place = refl
-    ended-by Name place = refl
-    ended-by Bracket place = refl
-    ended-by Strange place = refl
-
-  pub part-closed : (text : List ℕ) (account : Account) (parsed : Parsed)
-      → closedPart text (partOf names account parsed) ≡ partOf names account (closedTree text parsed)
-  part-closed text account (faulty fault place) = refl
-  part-closed text (RefusedBefore number place) (tree inner at) = let behind = tokenAt text at in closed-by (RefusedBefore number place) inner at (behind .token) (behind .place) (behind .next)
-  part-closed text (Open left) (tree inner at) =
-      by (run (steps names inner (end-at 0)) left) ∙ closed-by (Open left) inner at (behind .token) (behind .place) (behind .next)
+  pub part-up-to : (text : List ℕ) (wanted : Wanted) (account : Account) (parsed : Parsed)
+      → partUpTo text wanted (partOf names account parsed) ≡ partOf names account (treeUpTo text wanted parsed)
+  part-up-to text wanted account (faulty fault place) = refl
+  part-up-to text wanted account (tree inner at) =
+      tree-part (λ p. partUpTo text wanted p ≡ upToBy wanted p behind) account inner at (λ left. refl) (λ number place. refl)
+      ∙ either-way (wants wanted (behind .token))
     where
       behind : Lexeme
       behind = tokenAt text at
 
-      by : (r : Run) → closedPart text (partBy r (treeValue names inner) at) ≡ closedPartBy (partBy r (treeValue names inner) at) (behind .token) (behind .place) (behind .next)
-      by (finished end left′) = refl
-      by (refused number place) = refl
-
-  pub part-ended : (text : List ℕ) (account : Account) (parsed : Parsed)
-      → endedPart text (partOf names account parsed) ≡ partOf names account (endedTree text parsed)
-  part-ended text account (faulty fault place) = refl
-  part-ended text (RefusedBefore number place) (tree inner at) = ended-by (RefusedBefore number place) inner at (tokenAt text at .token) (tokenAt text at .place)
-  part-ended text (Open left) (tree inner at) =
-      by (run (steps names inner (end-at 0)) left) ∙ ended-by (Open left) inner at (tokenAt text at .token) (tokenAt text at .place)
-    where
-      by : (r : Run) → endedPart text (partBy r (treeValue names inner) at) ≡ endedPartBy (partBy r (treeValue names inner) at) (tokenAt text at .token) (tokenAt text at .place)
-      by (finished end left′) = refl
-      by (refused number place) = refl
+      either-way : (b : Bool) → cond b (movedTo (behind .next) (partOf names account (tree inner at))) (Faulty BadExpression (behind .place))
+          ≡ partOf names account (cond b (tree inner (behind .next)) (faulty BadExpression (behind .place)))
+      either-way true = part-moved account inner at (behind .next)
+      either-way false = refl
 
   -- the answer that the code makes of a part is that of the evaluation
   pub part-answer : (left : ℕ) (parsed : Parsed)

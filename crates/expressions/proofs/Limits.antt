@@ -1,5 +1,5 @@
 -- How far the numbers of an evaluation go: every place lies in the text, and every refusal is a listed one.
-use mathlib.Core.Bool.{cond, true, false, _&&_}
+use mathlib.Core.Bool.{_&&_}
 use mathlib.Core.List.{List, List·Memᴰ, Memᴰ·append-left, List·Memᴰ·head as head}
 use mathlib.Core.Path.{_≡_, refl, sym, subst}
 use Prim.Native.Nat.{ℕ, zero, suc, _≤_}
@@ -18,19 +18,21 @@ use Rattle.variables.specs.Judgements.{Judged, good, long-text, bad-table, judg
 use Rattle.variables.specs.Names.{Meaning, unknown, string-of, integer-of, macro-of, namesOf}
 use Rattle.variables.proofs.Judging as Judging
 use Rattle.variables.proofs.Bounds.{Bounded as Checks, checked-bounded}
-use Rattle.arithmetic.specs.Operators.{levelOf, loosest, standsAlone, divides}
+use Rattle.arithmetic.specs.Operators.{loosest, standsAlone, divides}
 use Rattle.tokens.specs.Tokens.{faultOf, tokenAt}
-use Rattle.parts.specs.Links.{Link, binds, none, linkBy, linkAt}
-use Rattle.expressions.specs.Trees.{Tree, constant, variable, unary, binary, Parsed, tree, faulty, joined, covered, extended, closedBy, endedBy, Deeper, operatorsFrom, levelAt, closedTree, operandBy, deepest, oneDeeper, startedIn, operandAt, endedTree, wholeTree}
+use Rattle.parts.specs.Links.{Link, binds, none, linkAt, wants}
+use Rattle.expressions.specs.Trees.{Tree, constant, variable, unary, binary, Parsed, tree, faulty, joined, covered, extended, Deeper, operatorsFrom, levelAt, treeUpTo, operandBy, deepest, oneDeeper, startedIn, operandAt, wholeTree}
 use Rattle.expressions.specs.Evaluations.{nameSteps, divided, treeValue, steps, evaluation}
 use Rattle.expressions.specs.Answers.{readingOf, valueIn, evaluatedBy, evaluatedOver, evaluated, evaluatedNumber, evaluatedPlace, metNumbers, evaluateNumbers}
 use Rattle.expressions.specs.declared.Evaluated.{Evaluated}
 use Rattle.arithmetic.specs.declared.operators.Operator.{Operator}
 use Rattle.tokens.specs.declared.Token.{Token}
 use Rattle.tokens.specs.declared.Token.the-variants.{End, Operator as Operates, Number, FaultyNumber, Name, Open, Close, Strange}
-use Rattle.tokens.proofs.Places.{Takes, stands}
+use Rattle.parts.specs.declared.behind.Wanted.{Wanted}
+use Rattle.parts.specs.declared.behind.Wanted.the-variants.{ClosingBracket, TextEnd}
+use Rattle.tokens.proofs.Places.{stands}
 use Rattle.tokens.proofs.Limits.{FaultyIn, token-in}
-use Rattle.expressions.proofs.Onward.{binds-onward}
+use Rattle.expressions.proofs.Onward.{binds-by, binds-onward}
 
 -- a fault that an evaluation can be refused for
 abbrev Mentioned : Fault → Type 0
@@ -73,20 +75,8 @@ module _ (text : List ℕ) where
   covered-in operator (tree inner next) (tree-in i n) = tree-in i n
   covered-in operator (faulty fault at) (faulty-in m w) = faulty-in m w
 
-  -- where an operator binds, its place is its token's
-  binds-at : (level here next place next′ : ℕ) (operator : Operator) (token : Token) → linkBy level token here next ≡ binds operator place next′ → place ≡ here
-  binds-at level here next place next′ operator (Operates found) e = bound (eqb (levelOf found) level) e
-    where
-      bound : (b : _) → cond b (binds found here next) none ≡ binds operator place next′ → place ≡ here
-      bound true f = cc
-      bound false f = let z : _≡_ {A = ℕ} 0 1 = cc in absurd (omega arith)
-  binds-at level here next place next′ operator End e = let z : _≡_ {A = ℕ} 0 1 = cc in absurd (omega arith)
-  binds-at level here next place next′ operator (Number value) e = let z : _≡_ {A = ℕ} 0 1 = cc in absurd (omega arith)
-  binds-at level here next place next′ operator (FaultyNumber fault digit) e = let z : _≡_ {A = ℕ} 0 1 = cc in absurd (omega arith)
-  binds-at level here next place next′ operator Name e = let z : _≡_ {A = ℕ} 0 1 = cc in absurd (omega arith)
-  binds-at level here next place next′ operator Open e = let z : _≡_ {A = ℕ} 0 1 = cc in absurd (omega arith)
-  binds-at level here next place next′ operator Close e = let z : _≡_ {A = ℕ} 0 1 = cc in absurd (omega arith)
-  binds-at level here next place next′ operator Strange e = let z : _≡_ {A = ℕ} 0 1 = cc in absurd (omega arith)
+  token-starts : (at : ℕ) → at ≤ size → tokenAt text at .place ≤ size
+  token-starts at h = let s = stands text at h in omega (arith, s .reaches, s .within)
 
   module _ (level : ℕ) (below : ℕ → Parsed) (tighter : (at : ℕ) → at ≤ size → Stays (below at)) where
     operators-in : (more : ℕ) (parsed : Parsed) → Stays parsed → Stays (operatorsFrom text more level below parsed)
@@ -99,58 +89,32 @@ module _ (text : List ℕ) where
             → Stays (extended b lhs here below (operatorsFrom text more level below))
         go none e rest = tree-in l h
         go (binds operator place next) e rest =
-            let k = tokenAt text here in
-            let p = binds-at level (k .place) (k .next) place next operator (k .token) e in
+            let p = binds-by level _ _ place next operator (tokenAt text here .token) e .1 in
             rest (joined operator place lhs (below next))
-            (joined-in operator place lhs (below next) (omega (arith, p, token-in text here h .0)) l (tighter next (binds-onward text level here place next operator e .1)))
+            (joined-in operator place lhs (below next) (omega (arith, p, token-starts here h)) l (tighter next (binds-onward text level here place next operator e .1)))
 
   level-in : (level : ℕ) (operand : ℕ → Parsed) → ((at : ℕ) → at ≤ size → Stays (operand at)) → (at : ℕ) → at ≤ size → Stays (levelAt text level operand at)
   level-in zero operand o at h = o at h
   level-in (suc tighter) operand o at h =
       operators-in (suc tighter) (levelAt text tighter operand) (level-in tighter operand o) (suc size) _ (level-in tighter operand o at h)
 
-  closed-by : (inner : Tree) (place next : ℕ) (token : Token) → Inside inner → place ≤ size → (Takes token → next ≤ size) → Stays (closedBy inner token place next)
-  closed-by inner place next Close i a n = tree-in i (n tt)
-  closed-by inner place next End i a n = misplaced a
-  closed-by inner place next (Operates operator) i a n = misplaced a
-  closed-by inner place next (Number value) i a n = misplaced a
-  closed-by inner place next (FaultyNumber fault digit) i a n = misplaced a
-  closed-by inner place next Name i a n = misplaced a
-  closed-by inner place next Open i a n = misplaced a
-  closed-by inner place next Strange i a n = misplaced a
-
-  closed-in : (parsed : Parsed) → Stays parsed → Stays (closedTree text parsed)
-  closed-in (faulty fault place) s = s
-  closed-in (tree inner here) (tree-in i h) =
-      let k = tokenAt text here in
-      closed-by inner (k .place) (k .next) (k .token) i (token-in text here h .0) (λ t. stands text here t .within)
-
-  ended-by : (inner : Tree) (place : ℕ) (token : Token) → Inside inner → place ≤ size → Stays (endedBy inner token place)
-  ended-by inner place End i a = tree-in i a
-  ended-by inner place Close i a = misplaced a
-  ended-by inner place (Operates operator) i a = misplaced a
-  ended-by inner place (Number value) i a = misplaced a
-  ended-by inner place (FaultyNumber fault digit) i a = misplaced a
-  ended-by inner place Name i a = misplaced a
-  ended-by inner place Open i a = misplaced a
-  ended-by inner place Strange i a = misplaced a
-
-  ended-in : (parsed : Parsed) → Stays parsed → Stays (endedTree text parsed)
-  ended-in (faulty fault place) s = s
-  ended-in (tree inner here) (tree-in i h) = ended-by inner (tokenAt text here .place) (tokenAt text here .token) i (token-in text here h .0)
+  up-to-in : (wanted : Wanted) (parsed : Parsed) → Stays parsed → Stays (treeUpTo text wanted parsed)
+  up-to-in wanted (faulty fault place) s = s
+  up-to-in wanted (tree inner here) (tree-in i h) =
+      either Stays (wants wanted (tokenAt text here .token)) (λ _. tree-in i (stands text here h .within)) (λ _. misplaced (token-starts here h))
 
   record Covers (deeper : Deeper) : Type 0 where
     under : (operator : Operator) (place next : ℕ) → place ≤ size → next ≤ size → Stays (deeper .under operator place next)
     bracket : (place next : ℕ) → place ≤ size → next ≤ size → Stays (deeper .bracket place next)
 
-  operand-by : (deeper : Deeper) → Covers deeper → (place next : ℕ) (token : Token) → place ≤ size → FaultyIn size token → (Takes token → next ≤ size)
+  operand-by : (deeper : Deeper) → Covers deeper → (place next : ℕ) (token : Token) → place ≤ size → FaultyIn size token → next ≤ size
       → Stays (operandBy text deeper token place next)
-  operand-by deeper d place next (Number value) a b n = tree-in tt (n tt)
+  operand-by deeper d place next (Number value) a b n = tree-in tt n
   operand-by deeper d place next (FaultyNumber fault digit) a b n = faulty-in (fault-in fault (b .0)) (b .1)
-  operand-by deeper d place next Name a b n = tree-in a (n tt)
+  operand-by deeper d place next Name a b n = tree-in a n
   operand-by deeper d place next (Operates operator) a b n =
-      either Stays (standsAlone operator) (λ _. d .under operator place next a (n tt)) (λ _. misplaced a)
-  operand-by deeper d place next Open a b n = d .bracket place next a (n tt)
+      either Stays (standsAlone operator) (λ _. d .under operator place next a n) (λ _. misplaced a)
+  operand-by deeper d place next Open a b n = d .bracket place next a n
   operand-by deeper d place next End a b n = misplaced a
   operand-by deeper d place next Close a b n = misplaced a
   operand-by deeper d place next Strange a b n = misplaced a
@@ -158,7 +122,7 @@ module _ (text : List ℕ) where
   started-in : (deeper : Deeper) → Covers deeper → (at : ℕ) → at ≤ size → Stays (startedIn text deeper at)
   started-in deeper d at h =
       let k = tokenAt text at in
-      operand-by deeper d (k .place) (k .next) (k .token) (token-in text at h .0) (token-in text at h .1) (λ t. stands text at t .within)
+      operand-by deeper d (k .place) (k .next) (k .token) (token-starts at h) (token-in text at h) (stands text at h .within)
 
   operand-in : (levels at : ℕ) → at ≤ size → Stays (operandAt text levels at)
   unfolding operandAt
@@ -167,13 +131,13 @@ module _ (text : List ℕ) where
       started-in (oneDeeper text (operandAt text levels))
       (record {
         under = λ o p next a n. covered-in o _ (operand-in levels next n);
-        bracket = λ p next a n. closed-in _ (level-in loosest (operandAt text levels) (operand-in levels) next n);
+        bracket = λ p next a n. up-to-in ClosingBracket _ (level-in loosest (operandAt text levels) (operand-in levels) next n);
       })
       at h
 
   whole-in : Stays (wholeTree text)
   unfolding wholeTree
-  whole-in = ended-in _ (level-in loosest (operandAt text 16) (operand-in 16) 0 (omega arith))
+  whole-in = up-to-in TextEnd _ (level-in loosest (operandAt text 16) (operand-in 16) 0 (omega arith))
 
   -- a name is refused with one of two numbers, or spends a look-up
   name-placed : (m : Meaning) (place : ℕ) (rest : Trace) → place ≤ size → Placed size rest → Placed size (nameSteps m place rest)

@@ -7,25 +7,40 @@ use native.Mathlib.Omega.{arith}
 use lib.Dec.{eqb}
 use lib.ListN.{length}
 use Rattle.paper.specs.declared.faults.Fault.{Fault}
-use Rattle.paper.proofs.Choice.{either}
+use Rattle.paper.proofs.Choice.{either, clash}
 use Rattle.arithmetic.specs.Operators.{levelOf, loosest, standsAlone}
 use Rattle.tokens.specs.Tokens.{tokenAt}
-use Rattle.parts.specs.Links.{Link, binds, none, linkBy, linkAt}
-use Rattle.expressions.specs.Trees.{Tree, Parsed, tree, faulty, joined, covered, extended, closedBy, Deeper, operatorsFrom, levelAt, closedTree, operandBy, deepest, oneDeeper, startedIn, operandAt}
+use Rattle.parts.specs.Links.{Link, binds, none, linkBy, linkAt, wants}
+use Rattle.expressions.specs.Trees.{Tree, Parsed, tree, faulty, joined, covered, extended, Deeper, operatorsFrom, levelAt, treeUpTo, operandBy, deepest, oneDeeper, startedIn, operandAt}
 use Rattle.arithmetic.specs.declared.operators.Operator.{Operator}
 use Rattle.tokens.specs.declared.Token.{Token}
 use Rattle.tokens.specs.declared.Token.the-variants.{End, Operator as Operates, Number, FaultyNumber, Name, Open, Close, Strange}
-use Rattle.tokens.proofs.Places.{Takes, stands}
+use Rattle.parts.specs.declared.behind.Wanted.{Wanted}
+use Rattle.parts.specs.declared.behind.Wanted.the-variants.{ClosingBracket}
+use Rattle.tokens.proofs.Places.{Takes, stands, asked-within}
+
+-- where an operator binds, it is the token that stands there
+pub binds-by : (level here behind place next : ℕ) (operator : Operator) (token : Token) → linkBy level token here behind ≡ binds operator place next
+    → Takes token × (here ≡ place) × (behind ≡ next)
+binds-by level here behind place next operator (Operates found) e = bound (eqb (levelOf found) level) e
+  where
+    bound : (b : _) → cond b (binds found here behind) none ≡ binds operator place next → Unit {0} × (here ≡ place) × (behind ≡ next)
+    bound true f = (tt, (cc), (cc))
+    bound false f = clash (cc)
+binds-by level here behind place next operator End e = clash (cc)
+binds-by level here behind place next operator (Number value) e = clash (cc)
+binds-by level here behind place next operator (FaultyNumber fault digit) e = clash (cc)
+binds-by level here behind place next operator Name e = clash (cc)
+binds-by level here behind place next operator Open e = clash (cc)
+binds-by level here behind place next operator Close e = clash (cc)
+binds-by level here behind place next operator Strange e = clash (cc)
 
 module _ (text : List ℕ) where
   pub record Onward (at : ℕ) (parsed : Parsed) : Type 0 where
     pub ends : (t : Tree) (next : ℕ) → parsed ≡ tree t next → (at < next) × (next ≤ length text)
 
   faulty-onward : (at : ℕ) (fault : Fault) (place : ℕ) → Onward at (faulty fault place)
-  faulty-onward at fault place = record { ends = λ t next e. absurd (clash t next e) }
-    where
-      clash : (t : Tree) (next : ℕ) → faulty fault place ≡ tree t next → ⊥
-      clash t next e = let z : _≡_ {A = ℕ} 0 1 = cc in omega arith
+  faulty-onward at fault place = record { ends = λ t next e. clash (cc) }
 
   tree-onward : (at : ℕ) (t : Tree) (next : ℕ) → at < next → next ≤ length text → Onward at (tree t next)
   tree-onward at t next forward within = record { ends = λ t′ next′ e. same t′ next′ e }
@@ -48,28 +63,14 @@ module _ (text : List ℕ) where
       sooner : (t : Tree) (next : ℕ) → parsed ≡ tree t next → (at < next) × (next ≤ length text)
       sooner t next e = omega (arith, o .ends t next e)
 
-  -- where an operator binds, its token stands behind the place
-  binds-by : (level at place next place′ next′ : ℕ) (operator : Operator) (token : Token) → (Takes token → (at ≤ place′) × (place′ < next′) × (next′ ≤ length text))
-      → linkBy level token place′ next′ ≡ binds operator place next → (at < next) × (next ≤ length text)
-  binds-by level at place next place′ next′ operator (Operates found) s e = bound (eqb (levelOf found) level) e
-    where
-      bound : (b : _) → cond b (binds found place′ next′) none ≡ binds operator place next → (at < next) × (next ≤ length text)
-      bound true f = let same : next′ ≡ next = cc in omega (arith, s tt)
-      bound false f = let z : _≡_ {A = ℕ} 0 1 = cc in absurd (omega arith)
-  binds-by level at place next place′ next′ operator End s e = let z : _≡_ {A = ℕ} 0 1 = cc in absurd (omega arith)
-  binds-by level at place next place′ next′ operator (Number value) s e = let z : _≡_ {A = ℕ} 0 1 = cc in absurd (omega arith)
-  binds-by level at place next place′ next′ operator (FaultyNumber fault digit) s e = let z : _≡_ {A = ℕ} 0 1 = cc in absurd (omega arith)
-  binds-by level at place next place′ next′ operator Name s e = let z : _≡_ {A = ℕ} 0 1 = cc in absurd (omega arith)
-  binds-by level at place next place′ next′ operator Open s e = let z : _≡_ {A = ℕ} 0 1 = cc in absurd (omega arith)
-  binds-by level at place next place′ next′ operator Close s e = let z : _≡_ {A = ℕ} 0 1 = cc in absurd (omega arith)
-  binds-by level at place next place′ next′ operator Strange s e = let z : _≡_ {A = ℕ} 0 1 = cc in absurd (omega arith)
+  taken : (at : ℕ) → Takes (tokenAt text at .token) → (at < tokenAt text at .next) × (tokenAt text at .next ≤ length text)
+  taken at t = let s = stands text at (asked-within text at t) in omega (arith, s .starts, s .takes t, s .within)
 
   pub binds-onward : (level at place next : ℕ) (operator : Operator) → linkAt text level at ≡ binds operator place next
       → (at < next) × (next ≤ length text)
   binds-onward level at place next operator e =
-      let l = tokenAt text at in
-      binds-by level at place next (l .place) (l .next) operator (l .token)
-      (λ t. let s = stands text at t in (s .starts, s .forward, s .within)) e
+      let b = binds-by level _ _ place next operator (tokenAt text at .token) e in
+      omega (arith, b .2, taken at (b .0))
 
   module _ (level : ℕ) (below : ℕ → Parsed) (tighter : (at : ℕ) → Onward at (below at)) where
     operators-onward : (more at : ℕ) (parsed : Parsed) → Onward at parsed → Onward at (operatorsFrom text more level below parsed)
@@ -93,22 +94,13 @@ module _ (text : List ℕ) where
   level-onward (suc tighter) operand o at =
       operators-onward (suc tighter) (levelAt text tighter operand) (level-onward tighter operand o) (suc (length text)) at _ (level-onward tighter operand o at)
 
-  closed-by : (at : ℕ) (inner : Tree) (place′ next′ : ℕ) (token : Token) → (Takes token → (at < next′) × (next′ ≤ length text)) → Onward at (closedBy inner token place′ next′)
-  closed-by at inner place′ next′ Close s = let h = s tt in tree-onward at inner next′ (h .0) (h .1)
-  closed-by at inner place′ next′ End s = faulty-onward at _ place′
-  closed-by at inner place′ next′ (Operates operator) s = faulty-onward at _ place′
-  closed-by at inner place′ next′ (Number value) s = faulty-onward at _ place′
-  closed-by at inner place′ next′ (FaultyNumber fault digit) s = faulty-onward at _ place′
-  closed-by at inner place′ next′ Name s = faulty-onward at _ place′
-  closed-by at inner place′ next′ Open s = faulty-onward at _ place′
-  closed-by at inner place′ next′ Strange s = faulty-onward at _ place′
-
-  closed-onward : (at : ℕ) (parsed : Parsed) → Onward at parsed → Onward at (closedTree text parsed)
-  closed-onward at (faulty fault place) o = o
-  closed-onward at (tree inner here) o = closed-by at inner _ _ (tokenAt text here .token) (λ t. omega (arith, o .ends inner here refl, behind t))
-    where
-      behind : Takes (tokenAt text here .token) → (here ≤ tokenAt text here .place) × (tokenAt text here .place < tokenAt text here .next) × (tokenAt text here .next ≤ length text)
-      behind t = let s = stands text here t in (s .starts, s .forward, s .within)
+  up-to-onward : (wanted : Wanted) (at : ℕ) (parsed : Parsed) → Onward at parsed → Onward at (treeUpTo text wanted parsed)
+  up-to-onward wanted at (faulty fault place) o = o
+  up-to-onward wanted at (tree inner here) o =
+      let l = tokenAt text here in
+      let h = o .ends inner here refl in
+      let s = stands text here (h .1) in
+      either (Onward at) (wants wanted (l .token)) (λ _. tree-onward at inner (l .next) (omega (arith, h, s .starts, s .reaches)) (s .within)) (λ _. faulty-onward at _ (l .place))
 
   -- what a unary operator or a bracket covers goes on behind the place where it starts
   record Covers (deeper : Deeper) : Type 0 where
@@ -130,7 +122,7 @@ module _ (text : List ℕ) where
   started-onward : (deeper : Deeper) → Covers deeper → (at : ℕ) → Onward at (startedIn text deeper at)
   started-onward deeper d at =
       let l = tokenAt text at in
-      operand-by deeper d at (l .place) (l .next) (l .token) (λ t. let s = stands text at t in omega (arith, s .starts, s .forward, s .within))
+      operand-by deeper d at (l .place) (l .next) (l .token) (taken at)
 
   pub operand-onward : (levels at : ℕ) → Onward at (operandAt text levels at)
   unfolding operandAt
@@ -139,6 +131,6 @@ module _ (text : List ℕ) where
       started-onward (oneDeeper text (operandAt text levels))
       (record {
         under = λ o p next. covered-onward next o _ (operand-onward levels next);
-        bracket = λ p next. closed-onward next _ (level-onward loosest (operandAt text levels) (operand-onward levels) next);
+        bracket = λ p next. up-to-onward ClosingBracket next _ (level-onward loosest (operandAt text levels) (operand-onward levels) next);
       })
       at

@@ -9,19 +9,20 @@ use Rattle.paper.proofs.Choice.{hit, skip}
 use Rattle.variables.specs.Names.{Meaning}
 use Rattle.arithmetic.specs.Operators.{loosest, standsAlone}
 use Rattle.tokens.specs.Tokens.{Lexeme, tokenAt}
-use Rattle.expressions.specs.Trees.{Parsed, faulty, covered, Deeper, levelAt, closedTree, operandBy, deepest, oneDeeper, operandAt}
+use Rattle.expressions.specs.Trees.{Parsed, faulty, covered, Deeper, levelAt, treeUpTo, operandBy, deepest, oneDeeper, operandAt}
 use Rattle.tokens.specs.inner.Steps.{lexemeOf}
-use Rattle.parts.specs.inner.Steps.{coveredPart, closedPart}
+use Rattle.parts.specs.inner.Steps.{coveredPart, partUpTo}
 use Rattle.expressions.specs.inner.Steps.{partOf}
 use Rattle.arithmetic.specs.declared.operators.Operator.{Operator}
 use Rattle.tokens.specs.declared.Lexed.{Lexed}
 use Rattle.tokens.specs.declared.Token.{Token}
 use Rattle.tokens.specs.declared.Token.the-variants.{Operator as Operates, Name, Open}
 use Rattle.parts.specs.declared.Account.{Account}
+use Rattle.parts.specs.declared.behind.Wanted.the-variants.{ClosingBracket}
 use Rattle.parts.specs.declared.Part.{Part}
 use Rattle.parts.specs.declared.Part.the-variants.{Faulty}
-use Rattle.tokens.proofs.Places.{Takes, Stands, stands}
-use Rattle.expressions.proofs.Joins.{part-covered, part-closed}
+use Rattle.tokens.proofs.Places.{Takes, Stands, stands, asked-within}
+use Rattle.expressions.proofs.Joins.{part-covered, part-up-to}
 
 not-alone : (b : Bool) → not b ≡ true → b ≡ false
 not-alone false e = refl
@@ -56,7 +57,7 @@ module _ (names : List ℕ → Meaning) (text : List ℕ) (account : Account) (l
   pub name-stands : l .token ≡ Name → Stands text at (lexemeOf l)
   name-stands e =
       subst (Stands text at) (sym stood)
-      (stands text at (subst Takes (sym e ∙ ap (λ (m : Lexeme). m .token) stood) tt))
+      (stands text at (asked-within text at (subst Takes (sym e ∙ ap (λ (m : Lexeme). m .token) stood) tt)))
 
   module _ (operator : Operator) (e : l .token ≡ Operates operator) where
     -- an operator that stands before no operand alone
@@ -88,10 +89,10 @@ module _ (names : List ℕ → Meaning) (text : List ℕ) (account : Account) (l
     bracket-too-deep z = starts-with Open (faulty TooDeep (l .place)) _ e (ap (λ d. deeperIn d .bracket (l .place) (l .next)) (sym z)) refl
 
     pub bracket-covers : (inner r : Part) → (levels ≡ 0 → ⊥)
-        → inner ≡ partOf names account (levelAt text loosest (operandAt text (levels - 1)) (l .next)) → r ≡ closedPart text inner
+        → inner ≡ partOf names account (levelAt text loosest (operandAt text (levels - 1)) (l .next)) → r ≡ partUpTo text ClosingBracket inner
         → r ≡ partOf names account (operandAt text levels at)
     bracket-covers inner r z i h =
         let fewer : levels ≡ suc (levels - 1) = omega arith in
-        starts-with Open (closedTree text (levelAt text loosest (operandAt text (levels - 1)) (l .next))) r e
+        starts-with Open (treeUpTo text ClosingBracket (levelAt text loosest (operandAt text (levels - 1)) (l .next))) r e
         (ap (λ d. deeperIn d .bracket (l .place) (l .next)) (sym fewer))
-        (h ∙ ap (closedPart text) i ∙ part-closed names text account (levelAt text loosest (operandAt text (levels - 1)) (l .next)))
+        (h ∙ ap (partUpTo text ClosingBracket) i ∙ part-up-to names text ClosingBracket account (levelAt text loosest (operandAt text (levels - 1)) (l .next)))

@@ -7,7 +7,9 @@ use Rattle.paper.specs.declared.faults.Fault.{Fault}
 use Rattle.paper.specs.declared.faults.Fault.the-variants.{TooDeep, BadExpression}
 use Rattle.arithmetic.specs.Operators.{loosest, standsAlone}
 use Rattle.arithmetic.specs.declared.operators.Operator.{Operator}
-use Rattle.parts.specs.Links.{Link, binds, none, linkAt}
+use Rattle.parts.specs.Links.{Link, binds, none, linkAt, wants}
+use Rattle.parts.specs.declared.behind.Wanted.{Wanted}
+use Rattle.parts.specs.declared.behind.Wanted.the-variants.{ClosingBracket, TextEnd}
 use Rattle.tokens.specs.Tokens.{tokenAt}
 use Rattle.tokens.specs.declared.Token.{Token}
 use Rattle.tokens.specs.declared.Token.the-variants.{End, Operator as Operates, Number, FaultyNumber, Name, Open, Close, Strange}
@@ -41,28 +43,6 @@ abbrev pub extended : Link → Tree → ℕ → (ℕ → Parsed) → (Parsed →
 extended none lhs at below rest = tree lhs at
 extended (binds operator place next) lhs at below rest = rest (joined operator place lhs (below next))
 
--- ")", and nothing else, behind a bracketed part
-abbrev pub closedBy : Tree → Token → ℕ → ℕ → Parsed
-closedBy inner Close place next = tree inner next
-closedBy inner End place next = faulty BadExpression place
-closedBy inner (Operates operator) place next = faulty BadExpression place
-closedBy inner (Number value) place next = faulty BadExpression place
-closedBy inner (FaultyNumber fault digit) place next = faulty BadExpression place
-closedBy inner Name place next = faulty BadExpression place
-closedBy inner Open place next = faulty BadExpression place
-closedBy inner Strange place next = faulty BadExpression place
-
--- the end, and nothing else, behind the whole
-abbrev pub endedBy : Tree → Token → ℕ → Parsed
-endedBy inner End place = tree inner place
-endedBy inner Close place = faulty BadExpression place
-endedBy inner (Operates operator) place = faulty BadExpression place
-endedBy inner (Number value) place = faulty BadExpression place
-endedBy inner (FaultyNumber fault digit) place = faulty BadExpression place
-endedBy inner Name place = faulty BadExpression place
-endedBy inner Open place = faulty BadExpression place
-endedBy inner Strange place = faulty BadExpression place
-
 -- what a unary operator covers, and what a bracket does, one deeper: each with its own place and the first place behind it
 pub record Deeper : Type 0 where
   pub under : Operator → ℕ → ℕ → Parsed
@@ -81,9 +61,12 @@ module _ (text : List ℕ) where
   levelAt zero operand at = operand at
   levelAt (suc tighter) operand at = operatorsFrom (suc (length text)) (suc tighter) (levelAt tighter operand) (levelAt tighter operand at)
 
-  abbrev pub closedTree : Parsed → Parsed
-  closedTree (faulty fault place) = faulty fault place
-  closedTree (tree inner at) = let behind = tokenAt text at in closedBy inner (behind .token) (behind .place) (behind .next)
+  -- what is wanted, and nothing else, behind the part that is read
+  abbrev pub treeUpTo : Wanted → Parsed → Parsed
+  treeUpTo wanted (faulty fault place) = faulty fault place
+  treeUpTo wanted (tree inner at) =
+      let behind = tokenAt text at in
+      cond (wants wanted (behind .token)) (tree inner (behind .next)) (faulty BadExpression (behind .place))
 
   -- an operand by its first token
   abbrev pub operandBy : Deeper → Token → ℕ → ℕ → Parsed
@@ -103,7 +86,7 @@ module _ (text : List ℕ) where
   -- a bracketed part is a whole expression again
   abbrev pub oneDeeper : (ℕ → Parsed) → Deeper
   oneDeeper operand =
-      record { under = λ operator place next. covered operator (operand next); bracket = λ place next. closedTree (levelAt loosest operand next) }
+      record { under = λ operator place next. covered operator (operand next); bracket = λ place next. treeUpTo ClosingBracket (levelAt loosest operand next) }
 
   abbrev pub startedIn : Deeper → ℕ → Parsed
   startedIn deeper at = let first = tokenAt text at in operandBy deeper (first .token) (first .place) (first .next)
@@ -112,10 +95,6 @@ module _ (text : List ℕ) where
   operandAt zero at = startedIn deepest at
   operandAt (suc levels) at = startedIn (oneDeeper (operandAt levels)) at
 
-  abbrev pub endedTree : Parsed → Parsed
-  endedTree (faulty fault place) = faulty fault place
-  endedTree (tree inner at) = let behind = tokenAt text at in endedBy inner (behind .token) (behind .place)
-
   -- a whole expression up to the text's end; at most 16 unary operators and brackets stand over one operand
   unfoldable pub wholeTree : Parsed
-  wholeTree = endedTree (levelAt loosest (operandAt 16) 0)
+  wholeTree = treeUpTo TextEnd (levelAt loosest (operandAt 16) 0)

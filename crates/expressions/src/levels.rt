@@ -11,6 +11,7 @@ use parts::Account;
 use parts::Part;
 use parts::behind;
 use parts::behind::Behind;
+use parts::behind::Wanted;
 use parts::behind::operator_behind;
 use tokens::Token;
 
@@ -46,9 +47,10 @@ fn operand(text: &[u8], table: &[u8], keys: &[u32], levels: u8, at: usize, accou
             if levels == 0 {
                 return parts::too_deep(place);
             }
-            behind::closed(
+            behind::up_to(
                 text,
                 disjunction(text, table, keys, levels - 1, next, account),
+                Wanted::ClosingBracket,
             )
         }
         Token::End => parts::bad(place),

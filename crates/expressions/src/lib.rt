@@ -15,6 +15,7 @@ use paper::TextPlace;
 use parts::Account;
 use parts::Part;
 use parts::behind;
+use parts::behind::Wanted;
 use variables::Checked;
 
 // What an evaluation answers.
@@ -65,7 +66,7 @@ fn evaluate_over(text: &[u8], table: &[u8], keys: &[u32], left: u32) -> Evaluate
     ensures { λ r. ⌜ r ≡ evaluatedBy (run (readingOf (now (text .entry)) (now (table .entry))) left) (valueIn (now (text .entry)) (now (table .entry))) ⌝ }
 {
     let part = levels::disjunction(text, table, keys, LEVELS, 0, Account::Open(left));
-    answer_of(behind::ended(text, part))
+    answer_of(behind::up_to(text, part, Wanted::TextEnd))
 }
 
 // The value of an expression, its names those of a table's integer variables.

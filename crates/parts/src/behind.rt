@@ -1,7 +1,8 @@
 // What stands behind a part: an operator of a level, the ")" of a bracket, or the text's end.
 ghost use mathlib.Core.Path.{_≡_};
-ghost use Rattle.parts.specs.Links.{linkBy};
-ghost use Rattle.parts.specs.inner.Steps.{linkOf, linkBehind, closedPartBy, closedPart, endedPartBy, endedPart};
+ghost use Rattle.tokens.specs.inner.Steps.{lexemeOf};
+ghost use Rattle.parts.specs.Links.{linkBy, wants};
+ghost use Rattle.parts.specs.inner.Steps.{linkOf, linkBehind, upToBy, partUpTo};
 use crate::Part;
 use crate::bad;
 use crate::moved_to;
@@ -56,63 +57,56 @@ pub fn operator_behind(text: &[u8], level: u8, part: Part) -> Behind
     }
 }
 
-fn closed_by(part: Part, lexed: Lexed) -> Part
-    ensures { λ r. ⌜ r ≡ closedPartBy part (lexed .token) (lexed .place) (lexed .next) ⌝ }
+// What has to stand behind a part that is whole: the ")" of its bracket, or the text's end.
+pub enum Wanted {
+    ClosingBracket,
+    TextEnd,
+}
+
+fn wants_token(wanted: Wanted, token: Token) -> bool
+    ensures { λ b. ⌜ b ≡ wants wanted token ⌝ }
+{
+    match token {
+        Token::Close => match wanted {
+            Wanted::ClosingBracket => true,
+            Wanted::TextEnd => false,
+        },
+        Token::End => match wanted {
+            Wanted::ClosingBracket => false,
+            Wanted::TextEnd => true,
+        },
+        _ => false,
+    }
+}
+
+fn up_to_by(part: Part, wanted: Wanted, lexed: Lexed) -> Part
+    ensures { λ r. ⌜ r ≡ upToBy wanted part (lexemeOf lexed) ⌝ }
 {
     let token = lexed.token;
     let place = lexed.place;
     let next = lexed.next;
-    match token {
-        Token::Close => moved_to(part, next),
-        _ => bad(place),
+    if wants_token(wanted, token) {
+        moved_to(part, next)
+    } else {
+        bad(place)
     }
 }
 
-// A bracketed part up to its ")".
-pub fn closed(text: &[u8], part: Part) -> Part
-    ensures { λ r. ⌜ r ≡ closedPart (now (text .entry)) part ⌝ }
+// A part up to what is wanted behind it; anything else there is refused.
+pub fn up_to(text: &[u8], part: Part, wanted: Wanted) -> Part
+    ensures { λ r. ⌜ r ≡ partUpTo (now (text .entry)) wanted part ⌝ }
 {
     match part {
         Part::Value {
             value: _,
             left: _,
             next,
-        } => closed_by(part, tokens::token_at(text, next)),
+        } => up_to_by(part, wanted, tokens::token_at(text, next)),
         Part::Refused {
             number: _,
             place: _,
             next,
-        } => closed_by(part, tokens::token_at(text, next)),
-        Part::Faulty { fault, place } => Part::Faulty { fault, place },
-    }
-}
-
-fn ended_by(part: Part, lexed: Lexed) -> Part
-    ensures { λ r. ⌜ r ≡ endedPartBy part (lexed .token) (lexed .place) ⌝ }
-{
-    let token = lexed.token;
-    let place = lexed.place;
-    match token {
-        Token::End => moved_to(part, place),
-        _ => bad(place),
-    }
-}
-
-// The whole up to the text's end.
-pub fn ended(text: &[u8], part: Part) -> Part
-    ensures { λ r. ⌜ r ≡ endedPart (now (text .entry)) part ⌝ }
-{
-    match part {
-        Part::Value {
-            value: _,
-            left: _,
-            next,
-        } => ended_by(part, tokens::token_at(text, next)),
-        Part::Refused {
-            number: _,
-            place: _,
-            next,
-        } => ended_by(part, tokens::token_at(text, next)),
+        } => up_to_by(part, wanted, tokens::token_at(text, next)),
         Part::Faulty { fault, place } => Part::Faulty { fault, place },
     }
 }

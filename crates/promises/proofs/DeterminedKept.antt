@@ -143,8 +143,7 @@ determined =
           (λ κs a r after c. ap (λ (l : Lexeme). record { token = l .token; place = l .place; next = l .next }) c);
       operator-behind =
           function-of (λ (text, (level, (part, _))). behindBy (Parts.linkBehind text level part)) (λ κs a r after c. behind-back r ∙ ap behindBy c);
-      closed-part = function-of (λ (text, (part, _)). Parts.closedPart text part) (λ κs a r after c. c);
-      ended-part = function-of (λ (text, (part, _)). Parts.endedPart text part) (λ κs a r after c. c);
+      up-to = function-of (λ (text, (part, (wanted, _))). Parts.partUpTo text wanted part) (λ κs a r after c. c);
       too-deep-part = function-of (λ (place, _). Part.Faulty Faults.TooDeep place) (λ κs a r after c. c);
       bad-part = function-of (λ (place, _). Part.Faulty Faults.BadExpression place) (λ κs a r after c. c);
       account-of = function-of (λ (part, _). Parts.accountOf part) (λ κs a r after c. c);

@@ -52,8 +52,7 @@ use Rattle.runs.proofs.output.copy.Reads as copy
 use Rattle.references.proofs.resolve.Reads as resolve
 use Rattle.tokens.proofs.token_at.Reads as token-at
 use Rattle.parts.proofs.behind.operator_behind.Reads as operator-behind
-use Rattle.parts.proofs.behind.closed.Reads as closed-part
-use Rattle.parts.proofs.behind.ended.Reads as ended-part
+use Rattle.parts.proofs.behind.up_to.Reads as up-to
 use Rattle.parts.proofs.too_deep.Reads as too-deep-part
 use Rattle.parts.proofs.bad.Reads as bad-part
 use Rattle.parts.proofs.account_of.Reads as account-of
@@ -152,8 +151,7 @@ pub record Determined : Type 0 where
   pub token-at : One token-at.Learnt (lent rest) answer-alone
   -- parts
   pub operator-behind : One operator-behind.Learnt (lent rest) answer-alone
-  pub closed-part : One closed-part.Learnt (lent rest) answer-alone
-  pub ended-part : One ended-part.Learnt (lent rest) answer-alone
+  pub up-to : One up-to.Learnt (lent rest) answer-alone
   pub too-deep-part : One too-deep-part.Learnt rest answer-alone
   pub bad-part : One bad-part.Learnt rest answer-alone
   pub account-of : One account-of.Learnt rest answer-alone

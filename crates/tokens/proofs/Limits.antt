@@ -1,4 +1,4 @@
--- How far a token's numbers go: it starts inside the text, and so does the digit that the reader refuses.
+-- How far a token's numbers go: a number that the reader refuses has a fault of numbers, at a place inside the text.
 use mathlib.Core.Bool.{false}
 use mathlib.Core.List.{List}
 use mathlib.Core.Path.{_≡_, refl}
@@ -19,7 +19,7 @@ use Rattle.tokens.specs.declared.Token.{Token}
 use Rattle.tokens.specs.declared.Token.the-variants.{End, Operator as Operates, Number, FaultyNumber, Name, Open, Close, Strange}
 use Rattle.tokens.proofs.Places.{Reads, reading-reads}
 
--- a number that the reader refuses has a fault of numbers, inside a text of so many bytes
+-- the fault and the place that a refused number carries, in a text of so many bytes
 abbrev pub FaultyIn : ℕ → Token → Type 0
 FaultyIn size End = Unit {0}
 FaultyIn size (Operates operator) = Unit {0}
@@ -34,9 +34,8 @@ module _ (text : List ℕ) where
   abbrev size : ℕ
   size = length text
 
-  -- a token starts inside the text
   abbrev pub InText : Lexeme → Type 0
-  InText l = (l .place ≤ size) × FaultyIn size (l .token)
+  InText l = FaultyIn size (l .token)
 
   word-in : (word : List ℕ) → FaultyIn size (wordToken word)
   unfolding wordToken
@@ -48,8 +47,8 @@ module _ (text : List ℕ) where
       (λ _. either (FaultyIn size) (sameBytes (bytes "NOT") word) (λ _. tt) (λ _. tt)))))
 
   number-in : (at : ℕ) (r : Reading) → at ≤ size → Reads (length (drop at text)) r → InText (numberBy r at)
-  number-in at (Value n) h r = (h, tt)
-  number-in at (Refused number place) h r = (h, ((number, refl), omega (arith, length-drop at text)))
+  number-in at (Value n) h r = tt
+  number-in at (Refused number place) h r = ((number, refl), omega (arith, length-drop at text))
 
   single-in : (c : ℕ) → FaultyIn size (single c)
   unfolding single
@@ -61,25 +60,25 @@ module _ (text : List ℕ) where
       (λ _. either (FaultyIn size) (eqb c 45) (λ _. tt)
       (λ _. either (FaultyIn size) (eqb c 47) (λ _. tt) (λ _. either (FaultyIn size) (eqb c 61) (λ _. tt) (λ _. tt)))))))
 
-  symbol-in : (at : ℕ) → at ≤ size → InText (symbolAt text at)
+  symbol-in : (at : ℕ) → InText (symbolAt text at)
   unfolding symbolAt fromLess fromGreater
-  symbol-in at h =
+  symbol-in at =
       let c = getD text at 0 in
       let d = getD text (at + 1) 0 in
       either InText (eqb c 60)
-      (λ _. either InText (eqb d 62) (λ _. (h, tt)) (λ _. either InText (eqb d 61) (λ _. (h, tt)) (λ _. either InText (eqb d 60) (λ _. (h, tt)) (λ _. (h, tt)))))
+      (λ _. either InText (eqb d 62) (λ _. tt) (λ _. either InText (eqb d 61) (λ _. tt) (λ _. either InText (eqb d 60) (λ _. tt) (λ _. tt))))
       (λ _. either InText (eqb c 62)
-      (λ _. either InText (eqb d 61) (λ _. (h, tt))
-      (λ _. either InText (eqb d 62) (λ _. either InText (eqb (getD text (at + 2) 0) 62) (λ _. (h, tt)) (λ _. (h, tt))) (λ _. (h, tt))))
-      (λ _. (h, single-in c)))
+      (λ _. either InText (eqb d 61) (λ _. tt)
+      (λ _. either InText (eqb d 62) (λ _. either InText (eqb (getD text (at + 2) 0) 62) (λ _. tt) (λ _. tt)) (λ _. tt)))
+      (λ _. single-in c))
 
   starting-in : (at : ℕ) → at ≤ size → InText (startingAt text at)
   unfolding startingAt
   starting-in at h =
       let c = getD text at 0 in
-      either InText (ends c) (λ _. (h, tt))
-      (λ _. either InText (letter c) (λ _. (h, word-in _))
-      (λ _. either InText (numeral c) (λ _. number-in at (reading (drop at text) false no-limit) h (reading-reads (drop at text) false no-limit)) (λ _. symbol-in at h)))
+      either InText (ends c) (λ _. tt)
+      (λ _. either InText (letter c) (λ _. word-in _)
+      (λ _. either InText (numeral c) (λ _. number-in at (reading (drop at text) false no-limit) h (reading-reads (drop at text) false no-limit)) (λ _. symbol-in at)))
 
   pub token-in : (at : ℕ) → at ≤ size → InText (tokenAt text at)
   token-in at h = starting-in (at + spaces (drop at text)) (passed-within space text at h)

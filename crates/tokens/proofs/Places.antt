@@ -1,9 +1,10 @@
--- Where tokens stand: an operator, a number, a name or a bracket takes bytes of the text, none of them before the place asked for;
--- past the last byte stands the text's end.
+-- Where tokens stand: at or behind the place asked for, and inside the text where that is. An operator, a number, a name or a bracket takes
+-- bytes of it; past the last byte stands the text's end.
 use mathlib.Core.Bool.{Bool, true, false, _||_, and-eq-true-iff}
 use mathlib.Core.List.{List}
-use mathlib.Core.Path.{_≡_, refl, sym, ap}
+use mathlib.Core.Path.{_≡_, refl, sym, ap, subst}
 use Prim.Native.Nat.{ℕ, _+_, _<_, _≤_}
+use native.Mathlib.Decide.{decLe}
 use native.Mathlib.Omega.{arith}
 use borrow.Author.Tests.{eqb-true, eqb-false}
 use lib.Dec.{ltb, eqb}
@@ -31,11 +32,12 @@ Takes Open = Unit {0}
 Takes Close = Unit {0}
 Takes Strange = ⊥
 
--- it starts at or behind the place asked for, goes on behind it, and ends inside the text
+-- it starts at or behind the place asked for, ends inside the text, and takes a byte at least where an expression is made of it
 pub record Stands (text : List ℕ) (at : ℕ) (l : Lexeme) : Type 0 where
   pub starts : at ≤ l .place
-  pub forward : l .place < l .next
+  pub reaches : l .place ≤ l .next
   pub within : l .next ≤ length text
+  pub takes : Takes (l .token) → l .place < l .next
 
 -- a number that is read takes a byte at least, and ends inside the text; one that is refused is refused there
 abbrev pub Reads : ℕ → Reading → Type 0
@@ -84,10 +86,13 @@ reading-reads text whole limit =
 -- the token that starts at a place
 module _ (text : List ℕ) (at : ℕ) where
   abbrev S : Lexeme → Type 0
-  S l = Takes (l .token) → Stands text at l
+  S = Stands text at
 
   sized : (token : Token) (size : ℕ) → 0 < size → at + size ≤ length text → S (lexeme token at size)
-  sized token size some far _ = record { starts = omega arith; forward = omega arith; within = far }
+  sized token size some far = record { starts = omega arith; reaches = omega arith; within = far; takes = λ _. omega arith }
+
+  empty : (token : Token) → (Takes token → ⊥) → at ≤ length text → S (lexeme token at 0)
+  empty token none h = record { starts = omega arith; reaches = omega arith; within = omega arith; takes = λ t. absurd (none t) }
 
   -- so many bytes, the last of which is known
   ended : (token : Token) (last byte : ℕ) → 0 < byte → eqb (getD text (at + last) 0) byte ≡ true → S (lexeme token at (last + 1))
@@ -99,11 +104,11 @@ module _ (text : List ℕ) (at : ℕ) where
   unfolding wordByte
   word-stands l h = sized _ _ (omega (arith, run-more wordByte text at h (rw l))) (passed-within wordByte text at (omega arith))
 
-  number-stands : (r : Reading) → Reads (length (drop at text)) r → S (numberBy r at)
-  number-stands (Value n) r = sized _ _ (r .0) (omega (arith, r .1, length-drop at text))
-  number-stands (Refused number place) r = λ t. absurd t
-
   module _ (h : at < length text) where
+    number-stands : (r : Reading) → Reads (length (drop at text)) r → S (numberBy r at)
+    number-stands (Value n) r = sized _ _ (r .0) (omega (arith, r .1, length-drop at text))
+    number-stands (Refused number place) r = empty _ (λ t. t) (omega arith)
+
     less-stands : S (fromLess at (getD text (at + 1) 0))
     unfolding fromLess
     less-stands =
@@ -128,24 +133,32 @@ module _ (text : List ℕ) (at : ℕ) where
         either S (eqb c 60) (λ _. less-stands)
         (λ _. either S (eqb c 62) (λ _. greater-stands) (λ _. sized _ 1 (omega arith) (omega arith)))
 
-  starting-stands : S (startingAt text at)
+  starting-stands : at ≤ length text → S (startingAt text at)
   unfolding startingAt
-  starting-stands =
+  starting-stands w =
       let c = getD text at 0 in
-      either S (ends c) (λ _ t. absurd t)
+      either S (ends c) (λ _. empty _ (λ t. t) w)
       (λ n.
       let h = goes-on text at n in
       either S (letter c) (λ l. word-stands l h)
-      (λ _. either S (numeral c) (λ _. number-stands (reading (drop at text) false no-limit) (reading-reads (drop at text) false no-limit)) (λ _. symbol-stands h)))
+      (λ _. either S (numeral c) (λ _. number-stands h (reading (drop at text) false no-limit) (reading-reads (drop at text) false no-limit)) (λ _. symbol-stands h)))
 
   ended-past : length text ≤ at → startingAt text at .token ≡ End
   unfolding startingAt
   ended-past h = ap (λ (l : Lexeme). l .token) (sym (hit (ends (getD text at 0)) _ _ (ap ends (List·getD-eq-default text 0 h)) refl))
 
-pub stands : (text : List ℕ) (at : ℕ) → Takes (tokenAt text at .token) → Stands text at (tokenAt text at)
-stands text at t =
-    let s = starting-stands text (at + spaces (drop at text)) t in
-    record { starts = omega arith; forward = s .forward; within = s .within }
+pub stands : (text : List ℕ) (at : ℕ) → at ≤ length text → Stands text at (tokenAt text at)
+stands text at h =
+    let s = starting-stands text (at + spaces (drop at text)) (passed-within space text at h) in
+    record { starts = omega arith; reaches = s .reaches; within = s .within; takes = s .takes }
 
 pub past-end : (text : List ℕ) (at : ℕ) → length text ≤ at → tokenAt text at .token ≡ End
 past-end text at h = ended-past text (at + spaces (drop at text)) (omega arith)
+
+-- so a token that an expression is made of was asked for inside the text
+pub asked-within : (text : List ℕ) (at : ℕ) → Takes (tokenAt text at .token) → at ≤ length text
+asked-within text at t = go (decLe at (length text))
+  where
+    go : Dec (at ≤ length text) → at ≤ length text
+    go (yes h) = h
+    go (no n) = absurd (subst Takes (past-end text at (omega arith)) t)

@@ -8,12 +8,11 @@ use Rattle.paper.specs.declared.faults.Fault.the-variants.{BadExpression}
 use Rattle.arithmetic.specs.Operators.{divides}
 use Rattle.arithmetic.specs.Values.{unaryValue, binaryValue}
 use Rattle.arithmetic.specs.declared.operators.Operator.{Operator}
-use Rattle.tokens.specs.Tokens.{tokenAt}
-use Rattle.tokens.specs.declared.Token.{Token}
-use Rattle.tokens.specs.declared.Token.the-variants.{End, Operator as Operates, Number, FaultyNumber, Name, Open as Bracket, Close, Strange}
-use Rattle.parts.specs.Links.{Link, binds, none, linkAt}
+use Rattle.tokens.specs.Tokens.{Lexeme, tokenAt}
+use Rattle.parts.specs.Links.{Link, binds, none, linkAt, wants}
 use Rattle.parts.specs.declared.behind.Behind.{Behind}
 use Rattle.parts.specs.declared.behind.Behind.the-variants.{Binds, Other}
+use Rattle.parts.specs.declared.behind.Wanted.{Wanted}
 use Rattle.parts.specs.declared.Account.{Account}
 use Rattle.parts.specs.declared.Account.the-variants.{Open, Refused as RefusedBefore}
 use Rattle.parts.specs.declared.Part.{Part}
@@ -59,34 +58,11 @@ linkBehind text level (Value value left next) = linkAt text level next
 linkBehind text level (Refused number place next) = linkAt text level next
 linkBehind text level (Faulty fault place) = none
 
--- ")" and nothing else behind a part
-abbrev pub closedPartBy : Part → Token → ℕ → ℕ → Part
-closedPartBy part Close place next = movedTo next part
-closedPartBy part End place next = Faulty BadExpression place
-closedPartBy part (Operates operator) place next = Faulty BadExpression place
-closedPartBy part (Number value) place next = Faulty BadExpression place
-closedPartBy part (FaultyNumber fault digit) place next = Faulty BadExpression place
-closedPartBy part Name place next = Faulty BadExpression place
-closedPartBy part Bracket place next = Faulty BadExpression place
-closedPartBy part Strange place next = Faulty BadExpression place
+-- what is wanted, and nothing else, behind a part
+abbrev pub upToBy : Wanted → Part → Lexeme → Part
+upToBy wanted part behind = cond (wants wanted (behind .token)) (movedTo (behind .next) part) (Faulty BadExpression (behind .place))
 
-abbrev pub closedPart : List ℕ → Part → Part
-closedPart text (Value value left at) = let behind = tokenAt text at in closedPartBy (Value value left at) (behind .token) (behind .place) (behind .next)
-closedPart text (Refused number place at) = let behind = tokenAt text at in closedPartBy (Refused number place at) (behind .token) (behind .place) (behind .next)
-closedPart text (Faulty fault place) = Faulty fault place
-
--- the end and nothing else behind a part
-abbrev pub endedPartBy : Part → Token → ℕ → Part
-endedPartBy part End place = movedTo place part
-endedPartBy part Close place = Faulty BadExpression place
-endedPartBy part (Operates operator) place = Faulty BadExpression place
-endedPartBy part (Number value) place = Faulty BadExpression place
-endedPartBy part (FaultyNumber fault digit) place = Faulty BadExpression place
-endedPartBy part Name place = Faulty BadExpression place
-endedPartBy part Bracket place = Faulty BadExpression place
-endedPartBy part Strange place = Faulty BadExpression place
-
-abbrev pub endedPart : List ℕ → Part → Part
-endedPart text (Value value left at) = let behind = tokenAt text at in endedPartBy (Value value left at) (behind .token) (behind .place)
-endedPart text (Refused number place at) = let behind = tokenAt text at in endedPartBy (Refused number place at) (behind .token) (behind .place)
-endedPart text (Faulty fault place) = Faulty fault place
+abbrev pub partUpTo : List ℕ → Wanted → Part → Part
+partUpTo text wanted (Value value left at) = upToBy wanted (Value value left at) (tokenAt text at)
+partUpTo text wanted (Refused number place at) = upToBy wanted (Refused number place at) (tokenAt text at)
+partUpTo text wanted (Faulty fault place) = Faulty fault place

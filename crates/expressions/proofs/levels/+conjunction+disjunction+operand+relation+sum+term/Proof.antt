@@ -36,7 +36,7 @@ use Rattle.expressions.proofs.levels.term.Kinds as term-kinds
 use Rattle.expressions.proofs.levels.+conjunction+disjunction+operand+relation+sum+term.Lts-term as term-lts
 use Rattle.parts.proofs.bad.Reads as bad-reads
 use Rattle.parts.proofs.too_deep.Reads as too-deep-reads
-use Rattle.parts.proofs.behind.closed.Reads as closed-reads
+use Rattle.parts.proofs.behind.up_to.Reads as up-to-reads
 use Rattle.parts.proofs.behind.operator_behind.Reads as operator-behind-reads
 use Rattle.arithmetic.proofs.operators.Operator.stands_alone.Reads as stands-alone-reads
 use Rattle.parts.proofs.account_of.Reads as account-of-reads
@@ -364,27 +364,27 @@ operand-calls t = (
   covered-reads.Learnt,
   disjunction-below t,
   disjunction.Post,
-  closed-reads.Asked,
-  closed-reads.Learnt,
+  up-to-reads.Asked,
+  up-to-reads.Learnt,
 )
 
 operand-sub-named : (t : ℕ) → operand-lts.Need-sub-named (operand-calls t) (operand-at t) operand.Post
 operand-sub-named t c =
     let a = c .before .before .before .before .before .before .args in
     let s = name-stands (namesOf (a .table .now)) (a .text .now) (a .account) (a .levels) (a .at) _ (c .before .before .token-at .ensures) (c .enum-told .given .1) in
-    omega (arith, s .forward, s .within)
+    omega (arith, s .reaches, s .within)
 
 operand-part-named-start : (t : ℕ) → operand-lts.Need-part-named-start (operand-calls t) (operand-at t) operand.Post
 operand-part-named-start t c =
     let a = c .before .before .before .before .before .before .args in
     let s = name-stands (namesOf (a .table .now)) (a .text .now) (a .account) (a .levels) (a .at) _ (c .before .before .token-at .ensures) (c .enum-told .given .1) in
-    omega (arith, s .forward, s .within)
+    omega (arith, s .reaches, s .within)
 
 operand-part-named-end : (t : ℕ) → operand-lts.Need-part-named-end (operand-calls t) (operand-at t) operand.Post
 operand-part-named-end t c =
     let a = c .before .before .before .before .before .before .args in
     let s = name-stands (namesOf (a .table .now)) (a .text .now) (a .account) (a .levels) (a .at) _ (c .before .before .token-at .ensures) (c .enum-told .given .1) in
-    omega (arith, s .forward, s .within)
+    omega (arith, s .reaches, s .within)
 
 operand-returns : (t : ℕ) → operand-lts.Need-returns (operand-calls t) (operand-at t) operand.Post
 operand-returns t c =
@@ -442,7 +442,7 @@ operand-returns-8 : (t : ℕ) → operand-lts.Need-returns-8 (operand-calls t) (
 operand-returns-8 t c =
     let a = c .before .before .before .before .before .before .before .before .before .args in
     bracket-covers (namesOf (a .table .now)) (a .text .now) (a .account) (a .levels) (a .at) _ (c .before .before .before .before .before .token-at .ensures)
-    (c .before .before .before .enum-told2 .given .1) _ _ (c .before .before .if3 .left) (c .before .disjunction .ensures) (c .closed .ensures)
+    (c .before .before .before .enum-told2 .given .1) _ _ (c .before .before .if3 .left) (c .before .disjunction .ensures) (c .up-to .ensures)
 
 operand-returns-9 : (t : ℕ) → operand-lts.Need-returns-9 (operand-calls t) (operand-at t) operand.Post
 operand-returns-9 t c =
