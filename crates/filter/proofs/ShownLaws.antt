@@ -67,16 +67,18 @@ module _ (text table : List ℕ) (flags : ℕ) (out : List ℕ) (no-table : tabl
   unfolding outAfter
   left-after after r b e = b ∙ ap (λ r. leftBy r given out) e
 
-  pub written-answer : (after : List ℕ) (end : TextPlace) (need free : ℕ) → after ≡ outAfter text table flags 0 out
-      → told ≡ Written end need free → Stands out (answerTo text) need after
-  written-answer after end need free b e =
+  pub written-answer : (after : List ℕ) (end : TextPlace) (need free : ℕ) (answer : Translated) → after ≡ outAfter text table flags 0 out
+      → answer ≡ told → answer ≡ Written end need free → Stands out (answerTo text) need after
+  written-answer after end need free answer b t a =
+      let e : told ≡ Written end need free = sym t ∙ a in
       let same : given ≡ answerTo text = shown-answer (Written end need free) e in
       let size : need ≡ length given = subst (λ r. Sized r given) e (sized text table flags 0 (length out)) in
       (size ∙ ap length same, left-after after (Written end need free) b e ∙ ap (λ l. l ++ drop need out) same)
 
   -- a refusal leaves the buffer to its line
-  pub line-answer : (r : Translated) {middle after : List ℕ} {end : ℕ} → leftBy r given out ≡ out → middle ≡ outAfter text table flags 0 out
-      → told ≡ r → Stands middle (shown r given) end after → Stands out (answerTo text) end after
-  line-answer r {end = end} kept b e (ends, laid) =
+  pub line-answer : (r answer : Translated) {middle after : List ℕ} {end : ℕ} → leftBy r given out ≡ out → middle ≡ outAfter text table flags 0 out
+      → answer ≡ told → answer ≡ r → Stands middle (shown r given) end after → Stands out (answerTo text) end after
+  line-answer r answer {end = end} kept b t a (ends, laid) =
+      let e : told ≡ r = sym t ∙ a in
       let same : shown r given ≡ answerTo text = shown-answer r e in
       (ends ∙ ap length same, laid ∙ ap₂ (λ l o. l ++ drop end o) same (left-after _ r b e ∙ kept))
