@@ -3,7 +3,7 @@ use mathlib.Core.Path.{_≡_, ap, sym, _∙_}
 use mathlib.Core.List.{List}
 use Prim.Native.Nat.{ℕ}
 use lib.ListN.{length}
-use Rattle.paper.specs.Traces.{bytes, answer}
+use Rattle.paper.specs.Traces.{bytes, answer, allowed}
 use Rattle.gs.specs.Translations.{readingOf, translatedBy, translatedOver, leftBy, translated, outAfter}
 use Rattle.gs.proofs.Orders.{too-long, over}
 use Rattle.gs.specs.declared.Translated.{Translated}
@@ -20,6 +20,16 @@ module _ (text table : List ℕ) (flags allowance : ℕ) (out : List ℕ) where
       → leftBy r (bytes (readingOf text table flags)) out ≡ outAfter text table flags allowance out
   unfolding outAfter
   left-by r e = ap (λ r. leftBy r (bytes (readingOf text table flags)) out) e
+
+  -- what the filling answers under the allowance that counts, and what it leaves
+  filled : (r : Translated) (after : List ℕ) (left : ℕ)
+      → r ≡ translatedBy (answer (readingOf text table flags) left (length out)) → left ≡ allowed allowance
+      → translatedBy (answer (readingOf text table flags) (allowed allowance) (length out)) ≡ translated text table flags allowance (length out)
+      → after ≡ leftBy r (bytes (readingOf text table flags)) out
+      → (r ≡ translated text table flags allowance (length out)) × (after ≡ outAfter text table flags allowance out)
+  filled r after left answers capped is leaves =
+      let e = answers ∙ ap (λ n. translatedBy (answer (readingOf text table flags) n (length out))) capped ∙ is in
+      (e, leaves ∙ left-by r e)
 
 returns : tie.Need-returns
 returns c =
@@ -72,11 +82,9 @@ returns-3 c =
     let k = c .before .before .before .before .before .before .before in
     let t = k .before .before .before .before .before in
     let a = start t .args in
-    let reading = readingOf (a .text .now) (a .table .now) (a .flags .0) in
     let fill = c .before .before .fill .ensures in
-    let e = fill .0 ∙ ap (λ n. translatedBy (answer reading n (length (a .out .now)))) (c .before .before .before .before .cap .ensures .0)
-    ∙ by-check t (k .checked2 .given .1) in
-    (e, fill .1 ∙ left-by (a .text .now) (a .table .now) (a .flags .0) (a .allowance) (a .out .now) _ e)
+    filled (a .text .now) (a .table .now) (a .flags .0) (a .allowance) (a .out .now) _ _ _ (fill .0) (c .before .before .before .before .cap .ensures .0)
+    (by-check t (k .checked2 .given .1)) (fill .1)
 
 pub translate-spec : {M : Type 1} → statement M
 translate-spec =

@@ -1,7 +1,8 @@
 -- `signed_decimal` meets its contract: its string is that of the decimal form, which never has more than eleven characters.
 use mathlib.Core.Path.{_≡_, ap, ap₂, sym, _∙_}
 use mathlib.Core.Bool.{true, false}
-use mathlib.Core.List.{_++_}
+use mathlib.Core.List.{List, _++_}
+use Prim.Native.Nat.{ℕ}
 use native.Mathlib.Omega.{arith}
 use lib.ListN.{length, drop}
 use borrow.Author.Needs.{needs}
@@ -27,6 +28,11 @@ module _ (c : tie.After-characters) where
       ∙ sym (string-length (c .before .before .number-in .result) 10 (c .before .count-decimal .result) false)
       ∙ ap length laid
 
+-- a string at the start of a buffer, as the decimal that it is
+stands : (string decimal : List ℕ) (size : ℕ) (out after : List ℕ) → string ≡ decimal → size ≡ length decimal → after ≡ string ++ drop size out
+    → after ≡ decimal ++ drop (length decimal) out
+stands string decimal size out after s n e = e ∙ ap₂ (λ s n. s ++ drop n out) s n
+
 lay-number-requires : tie.Need-lay-number-requires
 lay-number-requires c κs =
     let sized = c .before in
@@ -37,7 +43,7 @@ returns c =
     let sized = c .before .before in
     let a = sized .before .before .before .args in (
       (counted sized, omega (arith, counted sized, decimal-short true false Word (a .value))),
-      c .lay-number .ensures ∙ ap₂ (λ s n. s ++ drop n (a .out .now)) (laid sized) (counted sized),
+      stands _ _ _ (a .out .now) _ (laid sized) (counted sized) (c .lay-number .ensures),
     )
 
 pub signed-decimal-spec : {M : Type 1} → statement M
