@@ -32,6 +32,12 @@ alone : (b : Bool) → not b ≡ false → b ≡ true
 alone true e = refl
 alone false e = sym e
 
+-- the place of a name's bytes
+pub name-stands : (text : List ℕ) (at : ℕ) (l : Lexed) → lexemeOf l ≡ tokenAt text at → l .token ≡ Name → Stands text at (lexemeOf l)
+name-stands text at l stood e =
+    subst (Stands text at) (sym stood)
+    (stands text at (asked-within text at (subst Takes (sym e ∙ ap (λ (m : Lexeme). m .token) stood) tt)))
+
 module _ (names : List ℕ → Meaning) (text : List ℕ) (account : Account) (levels at : ℕ) (l : Lexed) (stood : lexemeOf l ≡ tokenAt text at) where
   -- what may stand over an operand with so many levels more
   abbrev deeperIn : ℕ → Deeper
@@ -52,12 +58,6 @@ module _ (names : List ℕ → Meaning) (text : List ℕ) (account : Account) (l
       → parsed ≡ operandBy text (deeperIn levels) token (l .place) (l .next) → r ≡ partOf names account parsed
       → r ≡ partOf names account (operandAt text levels at)
   starts-with token parsed r e p h = h ∙ ap (partOf names account) (p ∙ by-token levels token e)
-
-  -- the place of a name's bytes
-  pub name-stands : l .token ≡ Name → Stands text at (lexemeOf l)
-  name-stands e =
-      subst (Stands text at) (sym stood)
-      (stands text at (asked-within text at (subst Takes (sym e ∙ ap (λ (m : Lexeme). m .token) stood) tt)))
 
   module _ (operator : Operator) (e : l .token ≡ Operates operator) where
     -- an operator that stands before no operand alone

@@ -28,7 +28,7 @@ evaluated-whole text table left part last r p e h =
     ∙ part-answer (namesOf table) left (treeUpTo text TextEnd parsed)
 
 returns : tie.Need-returns
-returns c = evaluated-whole (c .before .before .before .before .before .before .args .text .now) (c .before .before .before .before .before .before .args .table .now) (c .before .before .before .before .before .before .args .left) _ _ _ (c .before .before .disjunction .ensures) (c .before .up-to .ensures) (c .answer-of .ensures)
+returns c = evaluated-whole _ _ _ _ _ _ (c .before .before .disjunction .ensures) (c .before .up-to .ensures) (c .answer-of .ensures)
 
 pub evaluate-over-spec : {M : Type 1} → statement M
 evaluate-over-spec =
