@@ -1,89 +1,66 @@
-// A line of answer, composed in a lent buffer. Each function takes the place where the line ends so far and gives the next
-// one; what the buffer has no room for is left out.
-use crate::hex;
-use crate::slices;
+// A line of answer, written to standard output piece by piece: no buffer has to be lent for it. A write that fails leaves a
+// gap there, which the comparison shows.
 use libc::STDOUT_FILENO;
-
-// Ends the line at `at` and writes it to standard output. A write that fails leaves a gap there, which the comparison shows.
-pub(crate) fn write(out: &mut [u8], at: usize) {
-    let end = put(out, at, b'\n');
-    io::write_all(STDOUT_FILENO, slices::first(out, end));
-}
+use paper::bytes::byte;
 
 // The answer to a line that is no case.
-pub(crate) fn bad_line(out: &mut [u8]) -> usize {
-    put_word(out, 0, b"bad line")
+pub(crate) fn bad_line() {
+    word(b"bad line");
 }
 
 // The start of an answer that refuses: `no N`.
-pub(crate) fn refusal(out: &mut [u8], number: u8) -> usize {
-    let no = put_word(out, 0, b"no");
-    put_number(out, no, number as usize)
+pub(crate) fn refusal(why: u8) {
+    word(b"no");
+    number(why as usize);
 }
 
 // A refusal with nothing but its place: `no N PLACE`.
-pub(crate) fn refusal_at(out: &mut [u8], number: u8, place: usize) -> usize {
-    let why = refusal(out, number);
-    put_number(out, why, place)
+pub(crate) fn refusal_at(why: u8, place: usize) {
+    refusal(why);
+    number(place);
 }
 
-pub(crate) fn put_word(out: &mut [u8], at: usize, word: &[u8]) -> usize {
-    let mut end = at;
-    let mut i = 0;
-    while i < word.len() {
-        end = put(out, end, word[i]);
-        i += 1;
-    }
-    end
+// A refusal that says whether it counts its place in the text or among the records: `no N t` or `no N r`.
+pub(crate) fn refusal_in(why: u8, counted: u8) {
+    refusal(why);
+    letter(b' ');
+    letter(counted);
+}
+
+pub(crate) fn word(letters: &[u8]) {
+    io::write_all(STDOUT_FILENO, letters);
+}
+
+pub(crate) fn letter(c: u8) {
+    word(&[c]);
 }
 
 // A space, and a number in decimal.
-pub(crate) fn put_number(out: &mut [u8], at: usize, number: usize) -> usize {
-    let start = put(out, at, b' ');
-    let mut digits = [0u8; 20];
-    let count = io::decimal(number as u64, &mut digits);
-    put_word(out, start, &digits[..count])
+pub(crate) fn number(n: usize) {
+    letter(b' ');
+    io::print_decimal(STDOUT_FILENO, n as u64);
 }
 
 // A space, and the signed number of a 32-bit pattern in decimal.
-pub(crate) fn put_signed(out: &mut [u8], at: usize, pattern: u32) -> usize {
+pub(crate) fn signed(pattern: u32) {
+    letter(b' ');
     if pattern < 2147483648 {
-        return put_number(out, at, pattern as usize);
+        io::print_decimal(STDOUT_FILENO, pattern as u64);
+    } else {
+        letter(b'-');
+        io::print_decimal(STDOUT_FILENO, 4294967296 - pattern as u64);
     }
-    let start = put_word(out, at, b" -");
-    let mut digits = [0u8; 20];
-    let count = io::decimal(4294967296 - pattern as u64, &mut digits);
-    put_word(out, start, &digits[..count])
 }
 
 // A space, and bytes in hex, or "-" for none.
-pub(crate) fn put_hex(out: &mut [u8], at: usize, bytes: &[u8]) -> usize {
-    let start = put(out, at, b' ');
+pub(crate) fn hex(bytes: &[u8]) {
+    letter(b' ');
     if bytes.len() == 0 {
-        return put(out, start, b'-');
+        letter(b'-');
     }
-    put_pairs(out, start, bytes)
-}
-
-fn put_pairs(out: &mut [u8], at: usize, bytes: &[u8]) -> usize {
-    let mut end = at;
-    let mut i = 0;
-    while i < bytes.len() {
-        end = put_pair(out, end, bytes[i]);
-        i += 1;
+    let mut at = 0;
+    while at < bytes.len() {
+        io::print_hex(STDOUT_FILENO, byte(bytes, at) as u64, 2);
+        at += 1;
     }
-    end
-}
-
-fn put_pair(out: &mut [u8], at: usize, byte: u8) -> usize {
-    let middle = put(out, at, hex::glyph(byte / 16));
-    put(out, middle, hex::glyph(byte % 16))
-}
-
-fn put(out: &mut [u8], at: usize, byte: u8) -> usize {
-    if at < out.len() {
-        out[at] = byte;
-        return at + 1;
-    }
-    at
 }

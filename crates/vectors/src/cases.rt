@@ -1,4 +1,4 @@
-// One case: its first word says for which operation.
+// One case: the form of its line says for which operation.
 mod conv;
 mod eval;
 mod look;
@@ -8,39 +8,63 @@ mod trans;
 
 use crate::answers;
 use crate::fields;
+use crate::frame::Lent;
+use crate::slices;
 
-// Composes the answer to a line in `out`, and gives its length. `text` and `table` take a text and a table of the case, and `lent`
-// is the buffer of an operation that writes.
-pub(crate) fn answer(
-    line: &[u8],
-    text: &mut [u8],
-    table: &mut [u8],
-    lent: &mut [u8],
-    out: &mut [u8],
-) -> usize {
-    let behind_conv = fields::take_word(line, b"conv");
-    if behind_conv.good {
-        return conv::answer(line, behind_conv, lent, out);
+// Two texts of the longest.
+pub const ROOM: usize = 140000;
+
+pub type Held = [u8; ROOM];
+
+const CONV: usize = 0;
+
+const READ: usize = 1;
+
+const TABLE: usize = 2;
+
+const LOOK: usize = 3;
+
+const TRANS: usize = 4;
+
+const EVAL: usize = 5;
+
+// The operation that a line asks for: the number of the form that it fits, and one more than all where it is no case.
+fn asked(line: &[u8]) -> usize {
+    let forms = b"conv N N R,read B F L,table B,look B B,trans B B N N R,eval B B N";
+    let mut operation = CONV;
+    while operation <= EVAL {
+        if fields::fit(line, slices::piece(forms, b',', operation)) {
+            return operation;
+        }
+        operation += 1;
     }
-    let behind_read = fields::take_word(line, b"read");
-    if behind_read.good {
-        return read::answer(line, behind_read, text, out);
+    operation
+}
+
+// Writes the answer to a line. `held` takes the bytes that its fields give in hex, which are the first two fields behind
+// the word at most: where these are something else, no operation looks at what they gave.
+pub(crate) fn answer(line: &[u8], held: &mut Held, lent: &mut Lent) {
+    let middle = fields::unpack(line, 1, held, 0);
+    let end = fields::unpack(line, 2, held, middle);
+    let bytes: &[u8] = held;
+    run(
+        line,
+        slices::part(bytes, 0, middle),
+        slices::part(bytes, middle, end),
+        lent,
+    );
+    answers::letter(b'\n');
+}
+
+// `lent` is the buffer of an operation that writes.
+fn run(line: &[u8], first: &[u8], second: &[u8], lent: &mut Lent) {
+    match asked(line) {
+        CONV => conv::answer(line, lent),
+        READ => read::answer(line, first),
+        TABLE => table::answer(first),
+        LOOK => look::answer(first, second),
+        TRANS => trans::answer(line, first, second, lent),
+        EVAL => eval::answer(line, first, second),
+        _ => answers::bad_line(),
     }
-    let behind_table = fields::take_word(line, b"table");
-    if behind_table.good {
-        return table::answer(line, behind_table, table, out);
-    }
-    let behind_look = fields::take_word(line, b"look");
-    if behind_look.good {
-        return look::answer(line, behind_look, table, text, out);
-    }
-    let behind_trans = fields::take_word(line, b"trans");
-    if behind_trans.good {
-        return trans::answer(line, behind_trans, text, table, lent, out);
-    }
-    let behind_eval = fields::take_word(line, b"eval");
-    if behind_eval.good {
-        return eval::answer(line, behind_eval, text, table, out);
-    }
-    answers::bad_line(out)
 }

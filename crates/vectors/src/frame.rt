@@ -1,13 +1,31 @@
 // A known byte in the room that a case lends and behind it, to show what the case changed and must not.
 use crate::answers;
+use crate::slices;
+
+// How many bytes a case lends at most.
+pub const MOST: usize = 70000;
 
 // How many bytes behind the room are watched too.
-pub const MARGIN: usize = 16;
+const MARGIN: usize = 16;
 
-const FILLER: u8 = 170;
+pub const ROOM: usize = MOST + MARGIN;
 
-// Puts the known byte at each place before `stop`, as far as the buffer goes.
-pub(crate) fn fill(lent: &mut [u8], stop: usize) {
+pub type Lent = [u8; ROOM];
+
+pub const FILLER: u8 = 170;
+
+// The room for a case to write in. It is filled with the known byte, and so is the margin behind it.
+pub(crate) fn room(lent: &mut [u8], size: u32) -> &mut [u8] {
+    let end = size as usize;
+    fill(lent, end + MARGIN);
+    // written with its 0, a part asks for no proof of its length
+    if lent.len() < end {
+        return &mut lent[0..0];
+    }
+    &mut lent[0..end]
+}
+
+fn fill(lent: &mut [u8], stop: usize) {
     let mut at = 0;
     while at < stop {
         if lent.len() <= at {
@@ -18,36 +36,21 @@ pub(crate) fn fill(lent: &mut [u8], stop: usize) {
     }
 }
 
-// Whether the known byte still stands from `start` up to `stop`, as far as the buffer goes.
-pub(crate) fn is_whole(lent: &[u8], start: usize, stop: usize) -> bool {
-    let mut at = start;
-    while at < stop {
-        if lent.len() <= at {
-            return true;
+// The room and the margin, to look at afterwards.
+pub(crate) fn framed(lent: &[u8], size: u32) -> &[u8] {
+    slices::part(lent, 0, size as usize + MARGIN)
+}
+
+// Adds a word to the answer, which no expected answer has, where the first of these bytes is another than `first`, or one behind it
+// is not the known byte.
+pub(crate) fn watch(kept: &[u8], first: u8) {
+    let mut wanted = first;
+    let mut at = 0;
+    while at < kept.len() {
+        if kept[at] != wanted {
+            return answers::word(b" touched");
         }
-        if lent[at] != FILLER {
-            return false;
-        }
+        wanted = FILLER;
         at += 1;
     }
-    true
-}
-
-// The same behind a string, whose zero byte has to stand at `end`.
-pub(crate) fn is_whole_behind(lent: &[u8], end: usize, stop: usize) -> bool {
-    if lent.len() <= end {
-        return false;
-    }
-    if lent[end] != 0 {
-        return false;
-    }
-    is_whole(lent, end + 1, stop)
-}
-
-// Adds a word to the answer where the case changed what it must not, which no expected answer has.
-pub(crate) fn report(out: &mut [u8], at: usize, whole: bool) -> usize {
-    if whole {
-        return at;
-    }
-    answers::put_word(out, at, b" touched")
 }

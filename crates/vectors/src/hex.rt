@@ -1,5 +1,16 @@
-// Hex digits in lower case, read and written.
-ghost use Prim.Native.Nat.{_<_};
+// Hex digits in lower case, two to a byte.
+
+// Whether a slice is pairs of digits and nothing else.
+pub(crate) fn is_pairs(s: &[u8]) -> bool {
+    let mut at = 0;
+    while at < s.len() {
+        if 15 < digit_of(s[at]) {
+            return false;
+        }
+        at += 1;
+    }
+    at % 2 == 0
+}
 
 // The byte of two digits; 256 where one of them is none.
 pub(crate) fn byte_of(high: u8, low: u8) -> u16 {
@@ -11,32 +22,22 @@ pub(crate) fn byte_of(high: u8, low: u8) -> u16 {
     if 15 < l {
         return 256;
     }
-    h * 16 + l
+    (h * 16 + l) as u16
 }
 
 // A character as a digit; 16 where it is none.
-fn digit_of(c: u8) -> u16 {
+pub(crate) fn digit_of(c: u8) -> u8 {
     if c < b'0' {
         return 16;
     }
     if c <= b'9' {
-        return (c - b'0') as u16;
+        return c - b'0';
     }
     if c < b'a' {
         return 16;
     }
     if c <= b'f' {
-        return (c - b'a' + 10) as u16;
+        return c - b'a' + 10;
     }
     16
-}
-
-// A digit as a character.
-pub(crate) fn glyph(digit: u8) -> u8
-    requires { ⌜ digit < 16 ⌝ }
-{
-    if digit < 10 {
-        return b'0' + digit;
-    }
-    b'a' + (digit - 10)
 }

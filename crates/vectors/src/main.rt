@@ -7,62 +7,42 @@ mod hex;
 mod lines;
 mod slices;
 
-use lines::Line;
-use lines::Window;
+use lines::Buffer;
+use lines::ROOM;
 
-// A turn of the loop over the input, which answers one line at most.
-fn turn(
-    window: Window,
-    input: &mut [u8],
-    text: &mut [u8],
-    table: &mut [u8],
-    lent: &mut [u8],
-    out: &mut [u8],
-) -> Window {
-    let line = lines::next(window, input);
-    match line {
-        Line::Part(rest) => rest,
-        Line::TooLong(rest) => {
-            let end = answers::bad_line(out);
-            answers::write(out, end);
-            rest
+// Answers each line of the bytes, and gives the place behind. A line that has no end in a full buffer goes on behind it, and is
+// left. The two buffers stand here, so that they cost one filling for each buffer of the input and not for each line.
+fn answer_lines(bytes: &[u8]) -> usize {
+    let mut held = [0; cases::ROOM];
+    let mut lent = [0; frame::ROOM];
+    let mut at = 0;
+    while at < bytes.len() {
+        let stop = slices::find(bytes, b'\n', at);
+        if ROOM <= stop {
+            return at;
         }
-        Line::Whole { start, end, rest } => {
-            let answer = cases::answer(slices::part(input, start, end), text, table, lent, out);
-            answers::write(out, answer);
-            rest
-        }
+        cases::answer(slices::part(bytes, at, stop), &mut held, &mut lent);
+        at = stop + 1;
     }
+    at
 }
 
-// A proved loop has to end, and nothing says that the input does. So the loop counts its turns down, from a number that no
-// run uses up.
-fn answer_all(
-    input: &mut [u8],
-    text: &mut [u8],
-    table: &mut [u8],
-    lent: &mut [u8],
-    out: &mut [u8],
-) {
-    let mut window = Window::new();
+// Where a buffer does not get full the input has ended. A proved loop has to end, and nothing says that the input does: so
+// the loop counts its turns down, from a number that no run uses up.
+fn answer_all(input: &mut Buffer) {
+    let mut kept = 0;
     let mut turns = u64::MAX;
     while turns > 0 {
-        if window.is_over() {
+        let end = lines::read_behind(input, kept);
+        let at = answer_lines(slices::part(input, 0, end));
+        if end < ROOM {
             return;
         }
-        window = turn(window, input, text, table, lent, out);
+        kept = lines::keep_from(input, at);
         turns -= 1;
     }
 }
 
-// Each buffer stands here once and is lent to all that runs, so that no line costs more than its own bytes. `input` holds
-// the longest line, which has two texts in hex; `text`, `table` and `lent` hold more than the longest text; `out` holds all of `lent`
-// in hex.
 fn main() {
-    let mut input = [0u8; 524288];
-    let mut text = [0u8; 70000];
-    let mut table = [0u8; 70000];
-    let mut lent = [0u8; 70000];
-    let mut out = [0u8; 150000];
-    answer_all(&mut input, &mut text, &mut table, &mut lent, &mut out);
+    answer_all(&mut [0; ROOM]);
 }

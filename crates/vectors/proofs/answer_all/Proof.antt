@@ -1,16 +1,14 @@
--- `answer_all` is safe and ends: the loop keeps every buffer's length, and the turns that are left fall.
-use mathlib.Core.Path.{_≡_}
-use lib.ListN.{length}
+-- `answer_all` is safe and ends: what is kept has room in the buffer, and the turns that are left fall.
+use Prim.Native.Nat.{_≤_}
 use borrow.Author.Needs.{needs}
 use Rattle.vectors.proofs.answer_all.Statement.{statement}
 use Rattle.vectors.proofs.answer_all.Tie as tie
 
 abbrev Inv-loop : tie.InvT-loop
-Inv-loop input₀ text₀ table₀ lent₀ out₀ window₀ turns₀ input text table lent out window turns =
-    (length input ≡ length input₀) × (length text ≡ length text₀) × (length table ≡ length table₀) × (length lent ≡ length lent₀) × (length out ≡ length out₀)
+Inv-loop input₀ kept₀ turns₀ input kept turns = kept ≤ 524288
 
 abbrev μ-loop : tie.MeasureT-loop
-μ-loop input₀ text₀ table₀ lent₀ out₀ window₀ turns₀ input text table lent out window turns = turns
+μ-loop input₀ kept₀ turns₀ input kept turns = turns
 
 pub answer-all-spec : {M : Type 1} → statement M
 answer-all-spec =
@@ -18,21 +16,12 @@ answer-all-spec =
     (tie.spec
     Inv-loop
     μ-loop
+    (λ c. search needs)
+    (λ c κs. search needs)
+    (λ c κs. search needs)
     (λ c κs. search needs)
     (λ c. search needs)
     (λ c κs. search needs)
-    (λ c. search needs)
-    (λ c. search needs)
-    (λ c. search needs)
-    (λ c. search needs)
-    (λ c. search needs)
-    (λ c. search needs)
-    (λ c κs. search needs)
-    (λ c. search needs)
-    (λ c. search needs)
-    (λ c. search needs)
-    (λ c. search needs)
-    (λ c. search needs)
     (λ c. search needs)
     (λ c. search needs)
     (λ c. search needs)
