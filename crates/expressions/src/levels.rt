@@ -6,7 +6,6 @@ ghost use Rattle.variables.specs.inner.Keys.{Keys};
 ghost use Rattle.variables.specs.Names.{namesOf};
 ghost use Rattle.expressions.specs.Trees.{levelAt, operandAt};
 ghost use Rattle.expressions.specs.inner.Steps.{partOf};
-use crate::leaves;
 use parts::Account;
 use parts::Part;
 use parts::behind;

@@ -5,7 +5,6 @@ ghost use Rattle.variables.specs.inner.Keys.{Keys};
 ghost use Rattle.expressions.specs.Answers.{readingOf, valueIn, refusedAt, evaluatedBy, evaluated};
 ghost use Rattle.expressions.specs.inner.Steps.{answerOf};
 
-mod leaves;
 mod levels;
 
 use paper::LONGEST;

@@ -32,6 +32,7 @@ use Rattle.references.specs.References.{referredBy}
 use Rattle.tokens.specs.Tokens.{Lexeme, tokenAt}
 use Rattle.parts.specs.Links.{Link, binds, none}
 use Rattle.parts.specs.inner.Steps as Parts
+use Rattle.leaves.specs.Leaves.{numberPart, namedPart}
 use Rattle.parts.specs.declared.behind.Behind.{Behind}
 use Rattle.parts.specs.declared.behind.Behind.the-variants.{Binds, Other}
 use Rattle.parts.specs.declared.Part.the-variants as Part
@@ -150,6 +151,9 @@ determined =
       moved-to = function-of (λ (part, (next, _)). Parts.movedTo next part) (λ κs a r after c. c);
       covered-part = function-of (λ (operator, (part, _)). Parts.coveredPart operator part) (λ κs a r after c. c);
       joined-part = function-of (λ (operator, (place, (lhs, (rhs, _)))). Parts.joinedPart operator place lhs rhs) (λ κs a r after c. c);
+      leaf-number = function-of (λ (value, (next, (account, _))). numberPart value next account) (λ κs a r after c. c);
+      leaf-named =
+          function-of (λ (name, (table, (keys, (place, (next, (account, _)))))). namedPart table keys name place next account) (λ κs a r after c. c);
       answer =
           function-of (λ (text, (out, _)). (length (answerTo text), answerTo text ++ drop (length (answerTo text)) out))
           (λ κs a r after c. ap₂ (λ r out. (r, out)) (c .0) (c .1 ∙ ap (λ n. answerTo (now (a .0)) ++ drop n (now (a .1 .0))) (c .0)));

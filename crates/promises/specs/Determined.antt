@@ -59,6 +59,8 @@ use Rattle.parts.proofs.account_of.Reads as account-of
 use Rattle.parts.proofs.moved_to.Reads as moved-to
 use Rattle.parts.proofs.covered.Reads as covered-part
 use Rattle.parts.proofs.joined.Reads as joined-part
+use Rattle.leaves.proofs.number.Reads as leaf-number
+use Rattle.leaves.proofs.named.Reads as leaf-named
 use Rattle.filter.proofs.answer.Reads as answer
 use Rattle.nosgoludd.proofs.conversions.nos_convert.Reads as nos-convert
 use Rattle.nosgoludd.proofs.readings.nos_read_unsigned.Reads as nos-read-unsigned
@@ -158,6 +160,9 @@ pub record Determined : Type 0 where
   pub moved-to : One moved-to.Learnt rest answer-alone
   pub covered-part : One covered-part.Learnt rest answer-alone
   pub joined-part : One joined-part.Learnt rest answer-alone
+  -- leaves
+  pub leaf-number : One leaf-number.Learnt rest answer-alone
+  pub leaf-named : One leaf-named.Learnt (lent (lent (lent rest))) answer-alone
   -- filter
   pub answer : One answer.Learnt (lent (lent rest)) (answer-and (λ (text, (out, _)). out))
   -- nosgoludd

@@ -2,9 +2,9 @@
 -- loosest again, one level deeper. What falls at each call is eight times the levels that may still be entered and the level's own number.
 use mathlib.Core.Bool.{not}
 use mathlib.Core.Path.{_≡_, refl, sym, ap, _∙_}
-use Prim.Native.Nat.{ℕ, _+_, _*_, _<_}
+use Prim.Native.Nat.{ℕ, _+_, _-_, _*_, _<_}
 use native.Mathlib.Omega.{arith}
-use lib.ListN.{length}
+use lib.ListN.{length, take, drop}
 use borrow.Author.Needs.{needs}
 use borrow.Fn.Kinds.{In, Out}
 use borrow.Fn.PlainCycle.{Measures, is, falls, and}
@@ -15,6 +15,7 @@ use Rattle.parts.specs.declared.Account.{Account}
 use Rattle.tokens.specs.declared.Token.the-variants.{End, Number, FaultyNumber, Name, Close, Strange}
 use Rattle.expressions.proofs.Chains.{remaining, Chain, begins, ends, goes-on, shortens}
 use Rattle.expressions.proofs.Operands.{starts-with, name-stands, misplaced, operator-too-deep, operator-covers, bracket-too-deep, bracket-covers}
+use Rattle.expressions.proofs.LeafLaws.{number-part, named-part}
 use Rattle.expressions.proofs.levels.conjunction.Reads as conjunction
 use Rattle.expressions.proofs.levels.+conjunction+disjunction+operand+relation+sum+term.Lts-conjunction as conjunction-lts
 use Rattle.expressions.proofs.levels.disjunction.Reads as disjunction
@@ -36,8 +37,8 @@ use Rattle.arithmetic.proofs.operators.Operator.stands_alone.Reads as stands-al
 use Rattle.parts.proofs.account_of.Reads as account-of-reads
 use Rattle.parts.proofs.covered.Reads as covered-reads
 use Rattle.parts.proofs.joined.Reads as joined-reads
-use Rattle.expressions.proofs.leaves.named.Reads as named-reads
-use Rattle.expressions.proofs.leaves.number.Reads as number-reads
+use Rattle.leaves.proofs.named.Reads as named-reads
+use Rattle.leaves.proofs.number.Reads as number-reads
 use Rattle.tokens.proofs.token_at.Reads as token-at-reads
 use Rattle.expressions.proofs.levels.+conjunction+disjunction+operand+relation+sum+term.{statement}
 use Rattle.expressions.proofs.levels.+conjunction+disjunction+operand+relation+sum+term.Tie.{close}
@@ -184,9 +185,20 @@ pub +conjunction+disjunction+operand+relation+sum+term-spec : {M : Type 1} → s
     (λ c κs. search needs)
     (λ c. search needs)
     (λ c κs. search needs)
-    (λ c. starts-with _ _ _ _ _ _ (c .before .before .before .before .token-at .ensures) (Number _) _ _ (c .before .before .token .given .1) refl (c .number .ensures _))
+    (λ c.
+    let s = c .before .before .before .before in
+    let a = s .before .before .before .before .args in
+    let token = c .before .before .token .given in
+    starts-with _ _ _ _ _ _ (s .token-at .ensures) (Number _) _ _ (token .1) refl
+    (c .number .ensures ∙ number-part (namesOf (a .table .now)) (token .0 .0) (s .token-at .result .next) (a .account)))
     (λ c. starts-with _ _ _ _ _ _ (c .before .before .before .token-at .ensures) (FaultyNumber _ _) (faulty _ _) _ (c .before .token2 .given .1) refl refl)
-    (λ c. starts-with _ _ _ _ _ _ (c .before .before .before .before .token-at .ensures) Name _ _ (c .before .before .enum-told .given .1) refl (c .named .ensures))
+    (λ c.
+    let s = c .before .before .before .before in
+    let begun = s .before .before .before .before in
+    let a = begun .args in
+    let l = s .token-at .result in
+    starts-with _ _ _ _ _ _ (s .token-at .ensures) Name _ _ (c .before .before .enum-told .given .1) refl
+    (c .named .ensures ∙ named-part (l .place) (l .next) (a .table .now) (a .keys .now) (take (l .next - l .place) (drop (l .place) (a .text .now))) (a .account) (begun .pre .1)))
     (λ c.
     let s = c .before .before .before .before .before .before in
     operator-covers _ _ _ _ _ _ (s .before .before .token-at .ensures) _ (s .token3 .given .1) _ _ (ap not (sym (c .before .before .before .before .stands-alone .ensures)) ∙ c .before .before .before .if1 .left) (c .before .before .if2 .left)

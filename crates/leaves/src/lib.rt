@@ -1,13 +1,8 @@
-// Leaves of the tree: a number, and a name that is looked up in the table.
+// Leaves of an expression: a number, and a name that is looked up in the table.
 ghost use mathlib.Core.Path.{_≡_};
-ghost use mathlib.Core.List.{List};
-ghost use Prim.Native.Nat.{ℕ};
-ghost use Rattle.variables.specs.inner.Keys.{Keys};
-ghost use Rattle.variables.specs.Names.{Meaning, namesOf};
-ghost use Rattle.parts.specs.declared.Account.the-variants as Account;
+ghost use Rattle.variables.specs.inner.Keys.{soughtBy, matchAs};
 ghost use Rattle.parts.specs.declared.Part.the-variants as Part;
-ghost use Rattle.expressions.specs.Trees as Trees;
-ghost use Rattle.expressions.specs.inner.Steps.{partOf};
+ghost use Rattle.leaves.specs.Leaves.{numberPart, foundPart, namedPart};
 use paper::ALLOWANCE_SPENT;
 use paper::NOT_AN_INTEGER;
 use paper::UNKNOWN_NAME;
@@ -29,8 +24,8 @@ fn refused(number: u8, place: usize, next: usize) -> Part
 }
 
 // A number spends nothing.
-pub(crate) fn number(value: u32, next: usize, account: Account) -> Part
-    ensures { λ r. ⌜ ((names : List ℕ → Meaning) → r ≡ partOf names account (Trees.tree (Trees.constant value) next)) ⌝ }
+pub fn number(value: u32, next: usize, account: Account) -> Part
+    ensures { λ r. ⌜ r ≡ numberPart value next account ⌝ }
 {
     match account {
         Account::Open(left) => Part::Value { value, left, next },
@@ -44,8 +39,7 @@ pub(crate) fn number(value: u32, next: usize, account: Account) -> Part
 
 // A name must be known, and an integer variable; then it spends one look-up.
 fn look_up(name: &[u8], table: &[u8], keys: &[u32], place: usize, next: usize, left: u32) -> Part
-    requires { ⌜ Keys (now table) (now keys) ⌝ }
-    ensures { λ r. ⌜ r ≡ partOf (namesOf (now (table .entry))) (Account.Open left) (Trees.tree (Trees.variable (now (name .entry)) place) next) ⌝ }
+    ensures { λ r. ⌜ r ≡ foundPart (now (table .entry)) (matchAs (now (table .entry)) (soughtBy (now (table .entry)) (now (keys .entry)) (now (name .entry)))) place next left ⌝ }
 {
     match find(table, keys, name) {
         Match::Missing => refused(UNKNOWN_NAME, place, next),
@@ -69,8 +63,8 @@ fn look_up(name: &[u8], table: &[u8], keys: &[u32], place: usize, next: usize, l
     }
 }
 
-// Behind a refusal no name is looked up any more.
-pub(crate) fn named(
+// Behind a refusal no name is looked up any more. Any keys are gone by, as `find` does.
+pub fn named(
     name: &[u8],
     table: &[u8],
     keys: &[u32],
@@ -78,8 +72,7 @@ pub(crate) fn named(
     next: usize,
     account: Account,
 ) -> Part
-    requires { ⌜ Keys (now table) (now keys) ⌝ }
-    ensures { λ r. ⌜ r ≡ partOf (namesOf (now (table .entry))) account (Trees.tree (Trees.variable (now (name .entry)) place) next) ⌝ }
+    ensures { λ r. ⌜ r ≡ namedPart (now (table .entry)) (now (keys .entry)) (now (name .entry)) place next account ⌝ }
 {
     match account {
         Account::Open(left) => look_up(name, table, keys, place, next, left),

@@ -1,0 +1,2 @@
+-- The part that a leaf of an expression makes.
+pub mod Leaves
