@@ -3,14 +3,23 @@ use mathlib.Core.List.{List}
 use mathlib.Core.Path.{_≡_}
 use Prim.Native.Nat.{ℕ, _+_}
 use lib.ListN.{length, take, drop}
+use Rattle.paper.specs.declared.Holder.{Holder}
+use Rattle.paper.specs.declared.Holder.the-variants.{Farm, House}
 
--- what a place is counted in: the text, or the table of variables. The offset that a conversion gives is one in the lent buffer, and is
--- counted as a text's
+-- what a place is counted in: the text, the house's table or the farm's. The offset that a conversion gives is one in the lent buffer, and
+-- is counted as a text's
 abbrev pub in-text : ℕ
 in-text = 0
 
-abbrev pub in-table : ℕ
-in-table = 1
+abbrev pub in-house : ℕ
+in-house = 1
+
+abbrev pub in-farm : ℕ
+in-farm = 2
+
+abbrev pub countedIn : Holder → ℕ
+countedIn Farm = in-farm
+countedIn House = in-house
 
 -- the refusal number, 0 where accepted; what the place is counted in; the place; the room that is enough; the room left
 pub record Answer : Type 0 where

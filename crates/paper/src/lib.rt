@@ -1,4 +1,4 @@
-// What every chapter shares: the two kinds of place, the refusal numbers by name, a text's bytes and the allowance.
+// What every chapter shares: the two kinds of place and the two tables, the refusal numbers by name, a text's bytes and the allowance.
 
 pub mod allowance;
 pub mod bytes;
@@ -9,6 +9,13 @@ pub struct TextPlace(pub usize);
 
 // The place of a record in a table of variables: where its mark starts, counted in bytes from the table's start.
 pub struct RecordPlace(pub usize);
+
+// The two tables of variables: the farm's own is looked in before the house's. Beside a record's place it says in which of them that is
+// counted.
+pub enum Holder {
+    Farm,
+    House,
+}
 
 pub const NO_ROOM: u8 = 1;
 

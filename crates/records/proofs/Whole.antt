@@ -8,6 +8,7 @@ use borrow.Author.Tests.{leb-true, eqb-true, eq-eqb}
 use lib.Dec.{leb, eqb}
 use lib.ListN.{length, getD, take, drop, length-drop}
 use lib.Seq.{length-take-le}
+use Rattle.paper.specs.declared.Holder.{Holder}
 use Rattle.records.specs.Records.{kindAt, nameLength, valueLength, valueStart, nextPlace, nameAt, valueAt, allNameBytes, fitting, headed, sized, shaped, Entry, entryAt}
 use Rattle.records.specs.Kinds.{variableAt}
 
@@ -61,7 +62,7 @@ module _ (table : List ℕ) (place : ℕ) where
       }
 
 -- the part that is handed out for a record is its value
-pub own-value : (table : List ℕ) (e : Entry) → e ≡ entryAt table (e .place)
-    → e .value ≡ take (variableAt table e .length) (drop (variableAt table e .start) table)
+pub own-value : (holder : Holder) (table : List ℕ) (e : Entry) → e ≡ entryAt table (e .place)
+    → e .value ≡ take (variableAt holder table e .length) (drop (variableAt holder table e .start) table)
 unfolding entryAt valueAt
-own-value table e h = ap (λ (f : Entry). f .value) h
+own-value holder table e h = ap (λ (f : Entry). f .value) h

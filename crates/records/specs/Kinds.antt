@@ -4,6 +4,7 @@ use mathlib.Core.List.{List}
 use Prim.Native.Nat.{ℕ, _+_, _*_}
 use lib.Dec.{eqb}
 use lib.ListN.{getD}
+use Rattle.paper.specs.declared.Holder.{Holder}
 use Rattle.records.specs.Records.{string-kind, integer-kind, macro-kind, valueStart, valueLength, Entry}
 use Rattle.records.specs.declared.Variable.{Variable}
 use Rattle.records.specs.declared.kinds.Kind.{Kind}
@@ -22,10 +23,11 @@ kindNumber Macro = macro-kind
 abbrev pub pattern : List ℕ → ℕ
 pattern bytes = getD bytes 0 0 + 256 * getD bytes 1 0 + 65536 * getD bytes 2 0 + 16777216 * getD bytes 3 0
 
--- a record as the code hands it out: its place, its kind, and where its value lies
-abbrev pub variableAt : List ℕ → Entry → Variable
-variableAt table e =
+-- a record as the code hands it out: the table that holds it, its place there, its kind, and where its value lies there
+abbrev pub variableAt : Holder → List ℕ → Entry → Variable
+variableAt holder table e =
     record {
+      holder = holder;
       at = record { 0 = e .place };
       kind = kindOf (e .kind);
       start = valueStart table (e .place);

@@ -16,11 +16,13 @@ pub mod names;
 use kinds::Kind;
 use kinds::kind_of;
 use names::all_name_bytes;
+use paper::Holder;
 use paper::RecordPlace;
 use paper::bytes::byte;
 
-// A variable: its record's place, its kind, and where its value lies.
+// A variable: the table that holds it, its record's place there, its kind, and where its value lies there.
 pub struct Variable {
+    pub holder: Holder,
     pub at: RecordPlace,
     pub kind: Kind,
     pub start: usize,
@@ -63,12 +65,14 @@ pub fn next_place(table: &[u8], place: u32) -> usize
     at + 5 + length_at(table, at + 3) + length_at(table, at + 4)
 }
 
-pub fn variable_at(table: &[u8], place: u32) -> Variable
-    ensures { λ r. ⌜ r ≡ variableAt (now (table .entry)) (entryAt (now (table .entry)) place) ⌝ }
+// The variable at a place of a table that is the farm's, or the house's.
+pub fn variable_at(holder: Holder, table: &[u8], place: u32) -> Variable
+    ensures { λ r. ⌜ r ≡ variableAt holder (now (table .entry)) (entryAt (now (table .entry)) place) ⌝ }
 {
     let at = place as usize;
     let kind = kind_of(byte(table, at + 2));
     Variable {
+        holder,
         at: RecordPlace(at),
         kind,
         start: at + 5 + length_at(table, at + 3),

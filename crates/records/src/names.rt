@@ -34,14 +34,14 @@ fn small(c: u8) -> u8
     c + 32
 }
 
-// A number below 65536 for a name: equal names have the same.
+// A number below 32768 for a name: equal names have the same.
 pub fn key_of(name: &[u8]) -> u32
-    ensures { λ r. ⌜ (r ≡ keyOf (now (name .entry))) × (r < 65536) ⌝ }
+    ensures { λ r. ⌜ (r ≡ keyOf (now (name .entry))) × (r < 32768) ⌝ }
 {
     let mut key: u32 = 0;
     let mut at = 0;
     while at < name.len() {
-        key = (31 * key + (small(name[at]) as u32)) % 65536;
+        key = (31 * key + (small(name[at]) as u32)) % 32768;
         at += 1;
     }
     key

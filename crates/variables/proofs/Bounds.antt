@@ -1,6 +1,6 @@
--- Every answer has a number that is listed, a place up to 65,535, up to 256 records, and a kind up to 2.
+-- Every answer has a number that is listed, a place up to 65,535, up to 256 records of a table, and a kind up to 2.
 use mathlib.Core.Bool.{false}
-use mathlib.Core.List.{List, [], _∷_, List·Memᴰ, Memᴰ·append-left, List·Memᴰ·head as head, List·Memᴰ·tail as tail}
+use mathlib.Core.List.{List, [], _∷_, List·Memᴰ, List·Memᴰ·head as head, List·Memᴰ·tail as tail}
 use mathlib.Core.Logic.{_↔_}
 use mathlib.Core.Path.{_≡_, refl, subst}
 use Prim.Native.Nat.{ℕ, zero, suc, _+_, _≤_, _<_}
@@ -8,17 +8,26 @@ use native.Mathlib.Omega.{arith}
 use borrow.Author.Tests.{leb-false, ltb-true, ltb-false}
 use lib.Dec.{ltb, leb}
 use lib.ListN.{length}
-use Rattle.paper.specs.Refusals.{unknown-name, allowance-spent, bad-table, over-length, longest}
+use Rattle.paper.specs.Refusals.{allowance-spent, bad-table, over-length, longest}
+use Rattle.paper.specs.declared.Holder.{Holder}
+use Rattle.paper.specs.declared.Holder.the-variants.{Farm, House}
 use Rattle.paper.specs.declared.RecordPlace.{RecordPlace}
 use Rattle.paper.proofs.Choice.{clash, either}
 use Rattle.records.specs.Records.{nextPlace}
 use Rattle.records.specs.Kinds.{kindOf}
 use Rattle.records.proofs.KindLaws.{kind-bounded}
-use Rattle.variables.specs.Tables.{most, Sought, absent, present, sound, badTable, scanned, checked, recordsOf, soughtIn, foundAs, foundIn, lookedUp, checkNumber, checkPlace, checkCount, foundNumber, foundPlace, foundKind, checkNumbers, lookUpNumbers}
+use Rattle.variables.specs.Tables as Tables
+use Rattle.variables.specs.Tables.{most, Sought, absent, present, sound, scanned, scan, checked, recordsOf, soughtIn, checkNumber, checkPlace, checkCount, checkNumbers}
+use Rattle.variables.specs.Holdings.{heldBy, Holding, nowhere, heldIn, orElse}
+use Rattle.variables.specs.Judgements.{badTable}
+use Rattle.variables.specs.Lookups.{foundAs, foundBy, lookedUp, foundNumber, foundPlace, foundKind, lookUpNumbers}
 use Rattle.variables.specs.declared.Checked.{Checked}
 use Rattle.variables.specs.declared.Checked.the-variants.{Good, BadTable}
-use Rattle.variables.specs.declared.Found.{Found}
+use Rattle.variables.specs.declared.both.Found.{Found}
+use Rattle.variables.specs.declared.both.Judged.{Judged}
 use Rattle.variables.proofs.Good.{Laid, laid, wholes}
+use Rattle.variables.proofs.Judging.{Case, long-farm, long-house, bad-farm, bad-house, both-good, judged-case}
+use Rattle.variables.proofs.Lines.{or-nowhere}
 use Rattle.variables.proofs.Unique.{found}
 
 pub record Bounded (r : Checked) : Type 0 where
@@ -33,7 +42,7 @@ module _ (table : List ℕ) (short : length table ≤ longest) where
   good : (count : ℕ) → count ≤ most → Bounded (Good count)
   good count c = record { number = omega arith; place = omega arith; count = c; listed = head refl; refused = λ n at e. clash (cc) }
 
-  bad : (place : ℕ) → leb (length table) place ≡ false → Bounded (badTable bad-table place)
+  bad : (place : ℕ) → leb (length table) place ≡ false → Bounded (Tables.badTable bad-table place)
   bad place e =
       let h = leb-false (length table) place e in
       record {
@@ -64,6 +73,10 @@ checked-bounded table =
     })
     (λ e. scanned-bounded table (ltb-false longest (length table) e) most 0 0 (omega arith))
 
+-- a scan counts no more than 256 records
+pub count-bounded : (table : List ℕ) {n : ℕ} → length table ≤ longest → scan table ≡ Good n → n ≤ most
+count-bounded table short e = subst (λ r. checkCount r ≤ most) e (scanned-bounded table short most 0 0 (omega arith) .count)
+
 -- a scan never finds that a table is too long
 scanned-short : (table : List ℕ) (left count place : ℕ) → checkNumber (scanned left count table place) ≡ over-length → ⊥
 unfolding scanned
@@ -88,22 +101,37 @@ pub record FoundBounded (r : Found) : Type 0 where
   pub listed : List·Memᴰ (foundNumber r) lookUpNumbers
 
 -- a look-up in a table that is known to be good
-pub found-bounded : {n : ℕ} (table name : List ℕ) → Laid table n → FoundBounded (foundAs table (soughtIn table name))
-found-bounded table name l = go (soughtIn table name) refl where
-  go : (m : Sought) → soughtIn table name ≡ m → FoundBounded (foundAs table m)
-  go absent q =
-      record { number = omega arith; place = omega arith; kind = omega arith; listed = tail (tail (tail (head refl))) }
+in-good :
+    {n : ℕ} (holder : Holder) (farm house name : List ℕ) → Laid (heldBy holder farm house) n → (second : Holding) →
+    FoundBounded (foundAs farm house second) →
+    FoundBounded (foundAs farm house (orElse (heldIn holder (soughtIn (heldBy holder farm house) name)) second))
+in-good holder farm house name l second b = go (soughtIn (heldBy holder farm house) name) refl where
+  go : (m : Sought) → soughtIn (heldBy holder farm house) name ≡ m → FoundBounded (foundAs farm house (orElse (heldIn holder m) second))
+  go absent q = b
   go (present e) q =
-      let w = wholes l (found (recordsOf table) name q .0) in
+      let w = wholes l (found (recordsOf (heldBy holder farm house)) name q .0) in
       let s = l .short in
       record { number = omega arith; place = omega arith; kind = kind-bounded (kindOf (e .kind)); listed = head refl }
 
 -- a look-up in any bytes
-pub looked-up-bounded : (table name : List ℕ) → FoundBounded (lookedUp table name)
+pub looked-up-bounded : (farm house name : List ℕ) → FoundBounded (lookedUp farm house name)
 unfolding lookedUp
-looked-up-bounded table name = go (checked table) refl where
-  go : (k : Checked) → checked table ≡ k → FoundBounded (foundIn table name k)
-  go (Good count) q = found-bounded table name (laid table q)
-  go (BadTable number at) q =
-      let b = subst Bounded q (checked-bounded table) in
-      record { number = b .number; place = b .place; kind = omega arith; listed = Memᴰ·append-left (unknown-name ∷ []) (b .listed) }
+looked-up-bounded farm house name = go (judged-case farm house)
+  where
+    refused : (number : ℕ) (holder : Holder) (place : ℕ) → number ≤ 255 → place ≤ longest → List·Memᴰ number lookUpNumbers → FoundBounded (foundBy farm house name (badTable number holder place))
+    refused number holder place n p m = record { number = n; place = p; kind = omega arith; listed = m }
+
+    unknown : FoundBounded (foundAs farm house nowhere)
+    unknown = record { number = omega arith; place = omega arith; kind = omega arith; listed = tail (tail (tail (head refl))) }
+
+    bounded-place : (table : List ℕ) (place : ℕ) → checked table ≡ Tables.badTable bad-table place → place ≤ longest
+    bounded-place table place e = subst (λ r. checkPlace r ≤ longest) e (checked-bounded table .place)
+
+    go : {r : Judged} → Case farm house r → FoundBounded (foundBy farm house name r)
+    go (long-farm l) = refused over-length Farm 0 (omega arith) (omega arith) (tail (head refl))
+    go (long-house f l) = refused over-length House 0 (omega arith) (omega arith) (tail (head refl))
+    go (bad-farm f h place b) = refused bad-table Farm place (omega arith) (bounded-place farm place b) (tail (tail (head refl)))
+    go (bad-house f h own g place b) = refused bad-table House place (omega arith) (bounded-place house place b) (tail (tail (head refl)))
+    go (both-good f h own g count b) =
+        in-good Farm farm house name (laid farm g) (heldIn House (soughtIn house name))
+        (rw (← or-nowhere (heldIn House (soughtIn house name))) (in-good House farm house name (laid house b) nowhere unknown))

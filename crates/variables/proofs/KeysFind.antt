@@ -1,47 +1,77 @@
--- The keys of a good table: as many lines as its check counted, and a look-up by them is one in the table.
-use mathlib.Core.List.{List}
-use mathlib.Core.Path.{_≡_, ap, ap₂, sym, _∙_}
-use Prim.Native.Nat.{ℕ, _-_, _≤_}
+-- The keys of two good tables: as many lines as their records, and a look-up by them is one in the tables.
+use mathlib.Core.List.{List, [], _++_, append-nil}
+use mathlib.Core.Path.{_≡_, refl, ap, ap₂, sym, _∙_}
+use Prim.Native.Nat.{ℕ, _+_, _-_, _≤_}
 use native.Mathlib.Omega.{arith}
+use borrow.Author.Tests.{le-ltb}
 use lib.ListN.{length, take, drop, replicate, length-map, length-append}
-use Rattle.variables.specs.Tables.{most, before, recordsOf, soughtIn}
-use Rattle.variables.specs.inner.Keys.{lineOf, linesOf, laidOver, keysOf, Keys, reach, KeyedAs, soughtBy}
+use Rattle.paper.specs.Refusals.{longest}
+use Rattle.paper.specs.declared.Holder.{Holder}
+use Rattle.paper.specs.declared.Holder.the-variants.{Farm, House}
+use Rattle.variables.specs.Tables.{most, recordsOf, scan, checked, soughtIn}
+use Rattle.variables.specs.Holdings.{soughtInBoth, heldIn, orElse}
+use Rattle.variables.specs.inner.Keys.{lineOf, linesOf, laidOver, keysOf, Keys, passedLines, behindFarm, judgedLines, KeyedAs, soughtBy}
 use Rattle.variables.specs.declared.Checked.the-variants.{Good}
-use Rattle.variables.specs.declared.Keyed.{Keyed}
-use Rattle.variables.proofs.Good.{Laid, laid}
-use Rattle.variables.proofs.Lines.{by-keys}
+use Rattle.variables.specs.declared.both.Judged.the-variants.{Good as AllGood}
+use Rattle.variables.specs.declared.both.Keyed.{Keyed}
+use Rattle.variables.proofs.Good.{laid}
+use Rattle.variables.proofs.Judging.{checked-short, BothGood, both-are}
+use Rattle.variables.proofs.Lines.{by-records, or-nowhere}
 use Rattle.variables.proofs.Passed.{laid-part}
 
--- the keys that come with a good table's answer
-module _ {table : List ℕ} {r : Keyed} {count : ℕ} (k : KeyedAs table r) (good : r .checked ≡ Good count) where
-  good-laid : Laid table count
-  good-laid = laid table (sym (k .checked) ∙ good)
+-- a good table's records have as many lines as there are
+pub lines-long : (holder : Holder) (table : List ℕ) {n : ℕ} → checked table ≡ Good n → length (linesOf holder (recordsOf table)) ≡ n
+lines-long holder table good = length-map (recordsOf table) (lineOf holder) ∙ laid table good .counted
 
-  long : length (keysOf table) ≡ count
-  long = length-map (recordsOf table) lineOf ∙ good-laid .counted
+pub passed-long :
+    (holder : Holder) (table : List ℕ) {n : ℕ} → length table ≤ longest → scan table ≡ Good n → length (passedLines holder table (scan table)) ≡ n
+passed-long holder table short e =
+    ap (λ r. length (passedLines holder table r)) e ∙ lines-long holder table (checked-short table short ∙ e)
 
-  whole : r .keys ≡ laidOver (keysOf table) (replicate most 0)
-  whole = k .keys ∙ ap (λ r. laidOver (linesOf (before table (reach table r))) (replicate most 0)) good
+-- two good tables' lines are all passed
+module _ (farm house : List ℕ) {count : ℕ} (g : BothGood farm house count) where
+  all-passed : judgedLines farm house ≡ keysOf farm house
+  all-passed =
+      let f : scan farm ≡ Good (g .own) = sym (checked-short farm (g .farm-short)) ∙ g .farm-good in
+      let h : scan house ≡ Good (g .rest) = sym (checked-short house (g .house-short)) ∙ g .house-good in
+      rw (le-ltb longest (length farm) (g .farm-short), le-ltb longest (length house) (g .house-short), f, h)
+
+  long : length (keysOf farm house) ≡ count
+  long =
+      length-append (linesOf Farm (recordsOf farm)) (linesOf House (recordsOf house))
+      ∙ omega (arith, lines-long Farm farm (g .farm-good), lines-long House house (g .house-good), g .counted)
+
+-- the keys that come with the judgement of good tables
+module _ {farm house : List ℕ} {r : Keyed} {count : ℕ} (k : KeyedAs farm house r) (good : r .judged ≡ AllGood count) where
+  both : BothGood farm house count
+  both = both-are farm house (sym (k .judged) ∙ good)
+
+  whole : r .keys ≡ laidOver (keysOf farm house) (replicate (most + most) 0)
+  whole = k .keys ∙ ap (λ lines. laidOver lines (replicate (most + most) 0)) (all-passed farm house both)
 
   -- the part of them from their start up to the count
   pub lines-inside : count ≤ length (r .keys)
   lines-inside =
-      let rest : List ℕ = drop (length (keysOf table)) (replicate most 0) in
-      omega (arith, long, ap length whole ∙ length-append (keysOf table) rest)
+      let rest : List ℕ = drop (length (keysOf farm house)) (replicate (most + most) 0) in
+      omega (arith, long farm house both, ap length whole ∙ length-append (keysOf farm house) rest)
 
-  pub all-lines : Keys table (take (count - 0) (r .keys))
+  pub all-lines : Keys farm house (take (count - 0) (r .keys))
   all-lines =
-      let n : count - 0 ≡ length (keysOf table) = omega (arith, long) in
-      ap (take (count - 0)) whole ∙ ap (λ n. take n (laidOver (keysOf table) (replicate most 0))) n
-      ∙ laid-part (keysOf table) (replicate most 0)
+      let n : count - 0 ≡ length (keysOf farm house) = omega (arith, long farm house both) in
+      ap (take (count - 0)) whole ∙ ap (λ n. take n (laidOver (keysOf farm house) (replicate (most + most) 0))) n
+      ∙ laid-part (keysOf farm house) (replicate (most + most) 0)
 
--- one answer for each table
-pub one-keyed : (table : List ℕ) (r r′ : Keyed) → KeyedAs table r → KeyedAs table r′ → r ≡ r′
-one-keyed table r r′ k k′ =
-    let same : r .checked ≡ r′ .checked = k .checked ∙ sym (k′ .checked) in
-    let lines = ap (λ c. laidOver (linesOf (before table (reach table c))) (replicate most 0)) same in
-    ap₂ (λ c ks. record { checked = c; keys = ks }) same (k .keys ∙ lines ∙ sym (k′ .keys))
+-- one answer for two tables
+pub one-keyed : (farm house : List ℕ) (r r′ : Keyed) → KeyedAs farm house r → KeyedAs farm house r′ → r ≡ r′
+one-keyed farm house r r′ k k′ =
+    ap₂ (λ j ks. record { judged = j; keys = ks }) (k .judged ∙ sym (k′ .judged)) (k .keys ∙ sym (k′ .keys))
 
--- a look-up by a table's keys is one in the table
-pub sought-by-keys : (table name : List ℕ) {keys : List ℕ} → Keys table keys → soughtBy table keys name ≡ soughtIn table name
-sought-by-keys table name e = by-keys table name (length table) e
+-- a look-up by two tables' keys is one in the tables
+pub sought-by-keys :
+    (farm house name : List ℕ) {keys : List ℕ} → Keys farm house keys → soughtBy farm house keys name ≡ soughtInBoth farm house name
+unfolding soughtBy
+sought-by-keys farm house name e =
+    let lines = linesOf House (recordsOf house) in
+    ap (λ ks. soughtBy farm house ks name) (e ∙ ap (_++_ (linesOf Farm (recordsOf farm))) (sym (append-nil lines)))
+    ∙ by-records farm house Farm name (lines ++ []) (length farm)
+    ∙ ap (orElse (heldIn Farm (soughtIn farm name))) (by-records farm house House name [] (length house) ∙ or-nowhere (heldIn House (soughtIn house name)))

@@ -1,43 +1,55 @@
 -- The lines of keys: what a name means by the lines of a table's records is what it means among the records.
-use mathlib.Core.Bool.{Bool, true, false, _&&_, and-false}
-use mathlib.Core.List.{List, _∷_}
-use mathlib.Core.Path.{_≡_, refl, ap, _∙_}
+use mathlib.Core.Bool.{Bool, true, false, cond, _&&_, and-false}
+use mathlib.Core.List.{List, [], _∷_, _++_, append-nil}
+use mathlib.Core.Path.{_≡_, refl, ap, sym, _∙_}
 use Prim.Native.Nat.{ℕ, zero, suc, _+_, _*_, _/_, _%_, _<_, _≤_}
 use native.Mathlib.Numerals.{add-one}
 use native.Mathlib.Omega.{arith}
-use borrow.Author.Tests.{eq-eqb}
+use borrow.Author.Tests.{eq-eqb, lt-ltb, le-ltb}
 use lib.Dec.{ltb, eqb}
 use lib.ListN.{length, getD, drop, drop-of-length-le}
 use lib.Seq.{drop-cons}
+use Rattle.paper.specs.declared.Holder.{Holder}
+use Rattle.paper.specs.declared.Holder.the-variants.{Farm, House}
 use Rattle.paper.proofs.Choice.{either}
 use Rattle.records.specs.Records.{nextPlace, nameAt, sameName, Entry, entryAt}
 use Rattle.records.specs.inner.Keys.{keyOf}
 use Rattle.records.proofs.KeyLaws.{key-small, same-key}
-use Rattle.variables.specs.Tables.{most, entries, absent, present, sought, before}
-use Rattle.variables.specs.inner.Keys.{lineOf, linesOf, names, soughtBy}
+use Rattle.variables.specs.Tables.{most, entries, Sought, absent, present, sought, before}
+use Rattle.variables.specs.Holdings.{heldBy, Holding, nowhere, held, heldIn, orElse}
+use Rattle.variables.specs.inner.Keys.{markOf, lineOf, linesOf, LinesBefore, holderOf, recordBy, names, soughtBy}
 
 -- one line of any keys
-module _ (table keys name : List ℕ) (at : ℕ) where
-  pub unmet : length keys ≤ at → soughtBy table (drop at keys) name ≡ absent
+module _ (farm house keys name : List ℕ) (at : ℕ) where
+  pub unmet : length keys ≤ at → soughtBy farm house (drop at keys) name ≡ nowhere
   unfolding soughtBy
   unmet h = rw (drop-of-length-le keys {i = at} h)
 
   module _ (h : at < length keys) where
-    pub met : names table (getD keys at 0) name ≡ true → soughtBy table (drop at keys) name ≡ present (entryAt table (getD keys at 0 / 65536))
+    pub met :
+        names farm house (getD keys at 0) name ≡ true →
+        soughtBy farm house (drop at keys) name ≡ held (holderOf (getD keys at 0)) (recordBy farm house (getD keys at 0))
     unfolding soughtBy
     met e = rw (drop-cons keys at 0, e)
 
-    pub not-met : names table (getD keys at 0) name ≡ false → soughtBy table (drop at keys) name ≡ soughtBy table (drop (at + 1) keys) name
+    pub not-met :
+        names farm house (getD keys at 0) name ≡ false →
+        soughtBy farm house (drop at keys) name ≡ soughtBy farm house (drop (at + 1) keys) name
     unfolding soughtBy
     not-met e = rw (add-one, drop-cons keys at 0, e)
 
--- a record's line has its place and its key
-module _ (place key : ℕ) (h : key < 65536) where
-  pub place-in : (65536 * place + key) / 65536 ≡ place
-  place-in = omega arith
+-- a record's line has its place, its table and its key
+pub place-in : (holder : Holder) (place key : ℕ) → key < 32768 → (65536 * place + markOf holder + key) / 65536 ≡ place
+place-in Farm place key h = omega arith
+place-in House place key h = omega arith
 
-  pub key-in : (65536 * place + key) % 65536 ≡ key
-  key-in = omega arith
+pub key-in : (holder : Holder) (place key : ℕ) → key < 32768 → (65536 * place + markOf holder + key) % 32768 ≡ key
+key-in Farm place key h = omega arith
+key-in House place key h = omega arith
+
+pub holder-in : (holder : Holder) (place key : ℕ) → key < 32768 → holderOf (65536 * place + markOf holder + key) ≡ holder
+holder-in Farm place key h = rw (le-ltb ((65536 * place + 32768 + key) % 65536) 32768 (omega arith))
+holder-in House place key h = rw (lt-ltb ((65536 * place + 0 + key) % 65536) 32768 (omega arith))
 
 -- unequal keys are of unequal names
 same-or-other : (a b : List ℕ) → (eqb (keyOf a) (keyOf b) && sameName a b) ≡ sameName a b
@@ -46,26 +58,81 @@ same-or-other a b = go (sameName a b) refl where
   go true e = rw (eq-eqb (keyOf a) (keyOf b) (same-key a b e))
   go false e = rw e (and-false (eqb (keyOf a) (keyOf b)))
 
-module _ (table name : List ℕ) where
-  one : (place : ℕ) → names table (lineOf (entryAt table place)) name ≡ sameName (nameAt table place) name
-  unfolding entryAt
-  one place =
-      let k = key-small (nameAt table place) in
-      rw (place-in place (keyOf (nameAt table place)) k, key-in place (keyOf (nameAt table place)) k) (same-or-other (nameAt table place) name)
+-- the first of some records that has a name, or what follows them
+either-first :
+    (holder : Holder) (b : Bool) (e : Entry) (rest : Sought) (more : Holding) →
+    cond b (held holder e) (orElse (heldIn holder rest) more) ≡ orElse (heldIn holder (cond b (present e) rest)) more
+either-first holder true e rest more = refl
+either-first holder false e rest more = refl
 
-  one-more :
-      (place : ℕ) (es : List Entry) → soughtBy table (linesOf es) name ≡ sought es name →
-      soughtBy table (linesOf (entryAt table place ∷ es)) name ≡ sought (entryAt table place ∷ es) name
-  unfolding soughtBy sought entryAt
-  one-more place es e = rw (one place, e, place-in place (keyOf (nameAt table place)) (key-small (nameAt table place)))
+-- among the lines of one table's records and of others
+module _ (farm house : List ℕ) (holder : Holder) (name others : List ℕ) where
+  abbrev table : List ℕ
+  table = heldBy holder farm house
 
-  by-lines : (left stop place : ℕ) → soughtBy table (linesOf (entries left table stop place)) name ≡ sought (entries left table stop place) name
+  abbrev Among : List Entry → Type 0
+  Among es =
+      soughtBy farm house (linesOf holder es ++ others) name
+      ≡ orElse (heldIn holder (sought es name)) (soughtBy farm house others name)
+
+  module _ (place : ℕ) where
+    abbrev key : ℕ
+    key = keyOf (nameAt table place)
+
+    small : key < 32768
+    small = key-small (nameAt table place)
+
+    recorded : recordBy farm house (lineOf holder (entryAt table place)) ≡ entryAt table place
+    unfolding recordBy entryAt
+    recorded = rw (holder-in holder place key small, place-in holder place key small)
+
+    keyed : (eqb (lineOf holder (entryAt table place) % 32768) (keyOf name) && sameName (entryAt table place .name) name) ≡ sameName (entryAt table place .name) name
+    unfolding entryAt
+    keyed = rw (key-in holder place key small) (same-or-other (nameAt table place) name)
+
+    named : names farm house (lineOf holder (entryAt table place)) name ≡ sameName (entryAt table place .name) name
+    named =
+        ap (λ (e : Entry). eqb (lineOf holder (entryAt table place) % 32768) (keyOf name) && sameName (e .name) name) recorded
+        ∙ keyed
+
+    marked : holderOf (lineOf holder (entryAt table place)) ≡ holder
+    unfolding entryAt
+    marked = holder-in holder place key small
+
+    one-more : (es : List Entry) → Among es → Among (entryAt table place ∷ es)
+    unfolding soughtBy sought
+    one-more es e =
+        rw (named, recorded, marked, e)
+        (either-first holder (sameName (entryAt table place .name) name) (entryAt table place) (sought es name) (soughtBy farm house others name))
+
+  by-lines : (left stop place : ℕ) → Among (entries left table stop place)
   unfolding soughtBy sought entries
   by-lines zero stop place = refl
   by-lines (suc left) stop place =
-      either (λ es. soughtBy table (linesOf es) name ≡ sought es name) (ltb place stop)
+      either Among (ltb place stop)
       (λ _. one-more place (entries left table stop (nextPlace table place)) (by-lines left stop (nextPlace table place)))
       (λ _. refl)
 
-  pub by-keys : {keys : List ℕ} (stop : ℕ) → keys ≡ linesOf (before table stop) → soughtBy table keys name ≡ sought (before table stop) name
-  by-keys stop e = ap (λ i. soughtBy table i name) e ∙ by-lines most stop 0
+  pub by-records : (stop : ℕ) → Among (before table stop)
+  by-records stop = by-lines most stop 0
+
+-- which of the two holds it says nothing where both are one
+pub both-one : (holder : Holder) (table : List ℕ) → heldBy holder table table ≡ table
+both-one Farm table = refl
+both-one House table = refl
+
+pub or-nowhere : (h : Holding) → orElse h nowhere ≡ h
+or-nowhere nowhere = refl
+or-nowhere (held holder e) = refl
+
+-- the lines of one table alone
+pub by-own :
+    (table name : List ℕ) (stop : ℕ) {keys : List ℕ} (own : LinesBefore table stop keys) →
+    soughtBy table table keys name ≡ heldIn (own .0) (sought (before table stop) name)
+unfolding soughtBy
+by-own table name stop own =
+    let holder = own .0 in
+    let alone = by-records table table holder name [] stop in
+    ap (λ ks. soughtBy table table ks name) (own .1 ∙ sym (append-nil (linesOf holder (before table stop))))
+    ∙ rw (both-one holder table) at alone
+    ∙ or-nowhere (heldIn holder (sought (before table stop) name))

@@ -5,7 +5,7 @@ use Rattle.records.specs.Records.{Entry}
 use Rattle.records.specs.Kinds.{kindOf, pattern}
 use Rattle.records.specs.declared.kinds.Kind.{Kind}
 use Rattle.records.specs.declared.kinds.Kind.the-variants.{Text, Integer, Macro}
-use Rattle.variables.specs.Tables.{Sought, absent, present, soughtIn}
+use Rattle.variables.specs.Holdings.{Holding, nowhere, held, soughtInBoth}
 
 pub data Meaning : Type 0 where
   unknown : Meaning
@@ -22,10 +22,10 @@ valueAs Macro value = macro-of value
 unfoldable pub meant : Entry → Meaning
 meant e = valueAs (kindOf (e .kind)) (e .value)
 
-abbrev pub inReading : Sought → Meaning
-inReading absent = unknown
-inReading (present e) = meant e
+abbrev pub inReading : Holding → Meaning
+inReading nowhere = unknown
+inReading (held holder e) = meant e
 
--- what names mean in a table
-abbrev pub namesOf : List ℕ → List ℕ → Meaning
-namesOf table name = inReading (soughtIn table name)
+-- what names mean in the farm's table and the house's
+abbrev pub namesOf : List ℕ → List ℕ → List ℕ → Meaning
+namesOf farm house name = inReading (soughtInBoth farm house name)

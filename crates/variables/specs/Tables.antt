@@ -1,17 +1,13 @@
--- The records of a table, when it is good, and what a name means in it.
+-- The records of a table, when it is good, and which of them a name means.
 use mathlib.Core.Bool.{Bool, true, false, cond, _&&_}
 use mathlib.Core.List.{List, [], _∷_}
 use Prim.Native.Nat.{ℕ, zero, suc}
 use lib.Dec.{ltb, leb}
 use lib.ListN.{length}
-use Rattle.paper.specs.Answers.{in-text, in-table}
-use Rattle.paper.specs.Refusals.{unknown-name, bad-table, over-length, tooLong}
+use Rattle.paper.specs.Refusals.{bad-table, over-length, tooLong}
 use Rattle.records.specs.Records.{nextPlace, nameAt, shaped, sameName, Entry, entryAt}
-use Rattle.records.specs.Kinds.{kindNumber, variableAt}
 use Rattle.variables.specs.declared.Checked.{Checked}
 use Rattle.variables.specs.declared.Checked.the-variants.{Good, BadTable}
-use Rattle.variables.specs.declared.Found.{Found}
-use Rattle.variables.specs.declared.Found.the-variants.{At, Unknown, BadTable as InBadTable}
 
 abbrev pub most : ℕ
 most = 256
@@ -74,18 +70,6 @@ recordsOf table = entries most table (length table) 0
 abbrev pub soughtIn : List ℕ → List ℕ → Sought
 soughtIn table name = sought (recordsOf table) name
 
-abbrev pub foundAs : List ℕ → Sought → Found
-foundAs table absent = Unknown
-foundAs table (present e) = At (variableAt table e)
-
-abbrev pub foundIn : List ℕ → List ℕ → Checked → Found
-foundIn table name (Good count) = foundAs table (soughtIn table name)
-foundIn table name (BadTable number at) = InBadTable number at
-
--- a look-up in any bytes: a table that is not good is refused first
-unfoldable pub lookedUp : List ℕ → List ℕ → Found
-lookedUp table name = foundIn table name (checked table)
-
 -- the paper's numbers of a check: the refusal's number, 0 where the table is good; the place; how many records
 abbrev pub checkNumber : Checked → ℕ
 checkNumber (Good count) = 0
@@ -99,43 +83,6 @@ abbrev pub checkCount : Checked → ℕ
 checkCount (Good count) = count
 checkCount (BadTable number at) = 0
 
--- the paper's numbers of a look-up: the refusal's number, 0 where the name is known; what the place is counted in; the record's
--- place; the kind
-abbrev pub foundNumber : Found → ℕ
-foundNumber (At v) = 0
-foundNumber Unknown = unknown-name
-foundNumber (InBadTable number at) = number
-
--- an unknown name's place is the name's start
-abbrev pub foundCounted : Found → ℕ
-foundCounted (At v) = in-table
-foundCounted Unknown = in-text
-foundCounted (InBadTable number at) = in-table
-
-abbrev pub foundPlace : Found → ℕ
-foundPlace (At v) = v .at .0
-foundPlace Unknown = 0
-foundPlace (InBadTable number at) = at .0
-
-abbrev pub foundKind : Found → ℕ
-foundKind (At v) = kindNumber (v .kind)
-foundKind Unknown = 0
-foundKind (InBadTable number at) = 0
-
--- where the value starts in the table, and its length
-abbrev pub foundStart : Found → ℕ
-foundStart (At v) = v .start
-foundStart Unknown = 0
-foundStart (InBadTable number at) = 0
-
-abbrev pub foundLength : Found → ℕ
-foundLength (At v) = v .length
-foundLength Unknown = 0
-foundLength (InBadTable number at) = 0
-
 -- the numbers that an answer can have, in the order in which the refusals are looked for
 abbrev pub checkNumbers : List ℕ
 checkNumbers = 0 ∷ over-length ∷ bad-table ∷ []
-
-abbrev pub lookUpNumbers : List ℕ
-lookUpNumbers = 0 ∷ over-length ∷ bad-table ∷ unknown-name ∷ []

@@ -1,15 +1,17 @@
-// Variables: is a table good, and what does a name mean in it.
+// Variables: is a table good (here), what does a name mean in two of them (`both`), and the keys that look-ups go by (`keys`).
 ghost use mathlib.Core.Path.{_≡_};
 ghost use Prim.Native.Nat.{_≤_};
-ghost use lib.ListN.{length, take, drop};
-ghost use Rattle.variables.specs.Tables.{badTable, before, isNew, sound, scan, most, checked, lookedUp};
-ghost use Rattle.variables.specs.inner.Keys.{linesOf, laidOver, reach, KeyedAs, inGoodTable};
+ghost use lib.ListN.{length};
+ghost use Rattle.variables.specs.Tables.{badTable, isNew, sound, scan, most, checked};
+ghost use Rattle.variables.specs.inner.Keys.{laidOver, passedLines, LinesBefore};
 
+pub mod both;
 pub mod keys;
 
 use keys::find;
 use keys::line_at;
 use paper::BAD_TABLE;
+use paper::Holder;
 use paper::LONGEST;
 use paper::OVER_LENGTH;
 use paper::RecordPlace;
@@ -23,23 +25,10 @@ pub enum Checked {
     BadTable { number: u8, at: RecordPlace },
 }
 
-pub enum Found {
-    At(Variable),
-    Unknown,
-    // The table is not good.
-    BadTable { number: u8, at: RecordPlace },
-}
-
 // What a look-up by keys answers.
 pub enum Match {
     Record(Variable),
     Missing,
-}
-
-// A check's answer, and the keys of the records that it found good, for look-ups: a line for each, and zeros behind them.
-pub struct Keyed {
-    pub checked: Checked,
-    pub keys: [u32; MOST_RECORDS],
 }
 
 fn bad_table(number: u8, place: usize) -> Checked
@@ -51,41 +40,23 @@ fn bad_table(number: u8, place: usize) -> Checked
     }
 }
 
-// The number of a good table's records, or the first refusal.
+// The number of a good table's records, or the first refusal. The length is tested before the records are.
 pub fn check_table(table: &[u8]) -> Checked
     ensures { λ r. ⌜ r ≡ checked (now (table .entry)) ⌝ }
-{
-    let keyed = key_table(table);
-    keyed.checked
-}
-
-// The same, with the keys. They are handed back by value, so that a refusal changes nothing that was lent.
-pub fn key_table(table: &[u8]) -> Keyed
-    ensures { λ r. ⌜ KeyedAs (now (table .entry)) r ⌝ }
-{
-    let mut keys = [0u32; MOST_RECORDS];
-    let checked = check(table, &mut keys);
-    Keyed { checked, keys }
-}
-
-// The length is tested before the records are.
-fn check(table: &[u8], keys: &mut [u32]) -> Checked
-    requires { ⌜ length (now keys) ≡ most ⌝ }
-    ensures answer { λ r. ⌜ r ≡ checked (now (table .entry)) ⌝ }
-    ensures keys { λ r. ⌜ now (keys .exit) ≡ laidOver (linesOf (before (now (table .entry)) (reach (now (table .entry)) r))) (now (keys .entry)) ⌝ }
 {
     if LONGEST < table.len() {
         return bad_table(OVER_LENGTH, 0);
     }
-    scan(table, keys)
+    let mut keys = [0u32; MOST_RECORDS];
+    scan(Holder::House, table, &mut keys)
 }
 
-// The records one behind the other, up to the first bad one. The next place is cast to a `u32` and back so that the compiler knows that
-// every place is one, and keeps one register for `place` and `at`.
-fn scan(table: &[u8], keys: &mut [u32]) -> Checked
-    requires { ⌜ (length (now table) ≤ 65535) × (length (now keys) ≡ most) ⌝ }
+// The records one behind the other, up to the first bad one, and their lines. The next place is cast to a `u32` and back so that the
+// compiler knows that every place is one, and keeps one register for `place` and `at`.
+pub(crate) fn scan(holder: Holder, table: &[u8], keys: &mut [u32]) -> Checked
+    requires { ⌜ (length (now table) ≤ 65535) × (most ≤ length (now keys)) ⌝ }
     ensures answer { λ r. ⌜ r ≡ scan (now (table .entry)) ⌝ }
-    ensures keys { λ r. ⌜ now (keys .exit) ≡ laidOver (linesOf (before (now (table .entry)) (reach (now (table .entry)) r))) (now (keys .entry)) ⌝ }
+    ensures keys { λ r. ⌜ now (keys .exit) ≡ laidOver (passedLines holder (now (table .entry)) r) (now (keys .entry)) ⌝ }
 {
     let mut count = 0;
     let mut place = 0;
@@ -95,7 +66,7 @@ fn scan(table: &[u8], keys: &mut [u32]) -> Checked
         }
         let at = place as u32;
         if is_sound(table, &keys[0..count], at) {
-            keys[count] = line_at(table, at);
+            keys[count] = line_at(holder, table, at);
             let next = records::next_place(table, at) as u32;
             place = next as usize;
             count += 1;
@@ -107,7 +78,7 @@ fn scan(table: &[u8], keys: &mut [u32]) -> Checked
 }
 
 fn is_sound(table: &[u8], keys: &[u32], place: u32) -> bool
-    requires { ⌜ now keys ≡ linesOf (before (now table) place) ⌝ }
+    requires { ⌜ LinesBefore (now table) place (now keys) ⌝ }
     ensures { λ r. ⌜ r ≡ sound (now (table .entry)) place ⌝ }
 {
     if records::is_shaped(table, place) {
@@ -116,44 +87,13 @@ fn is_sound(table: &[u8], keys: &[u32], place: u32) -> bool
     false
 }
 
-// Whether no record before this one has an equal name.
+// Whether no record before this one has an equal name. All lines are of one table, so both are that one here.
 fn is_new(table: &[u8], keys: &[u32], place: u32) -> bool
-    requires { ⌜ now keys ≡ linesOf (before (now table) place) ⌝ }
+    requires { ⌜ LinesBefore (now table) place (now keys) ⌝ }
     ensures { λ r. ⌜ r ≡ isNew (now (table .entry)) place ⌝ }
 {
-    match find(table, keys, records::name_at(table, place)) {
+    match find(table, table, keys, records::name_at(table, place)) {
         Match::Record(_) => false,
         Match::Missing => true,
     }
-}
-
-// What a name means in any bytes: a table that is not good is refused first.
-pub fn look_up(table: &[u8], name: &[u8]) -> Found
-    ensures { λ r. ⌜ r ≡ lookedUp (now (table .entry)) (now (name .entry)) ⌝ }
-{
-    let keyed = key_table(table);
-    let checked = keyed.checked;
-    let keys: &[u32] = &keyed.keys;
-    match checked {
-        Checked::Good(count) => as_found(find(table, &keys[0..count], name)),
-        Checked::BadTable { number, at } => Found::BadTable { number, at },
-    }
-}
-
-fn as_found(m: Match) -> Found
-    ensures { λ r. ⌜ r ≡ inGoodTable m ⌝ }
-{
-    match m {
-        Match::Record(v) => Found::At(v),
-        Match::Missing => Found::Unknown,
-    }
-}
-
-// The value of a variable that was found in this table. Of another table it is what lies at that place, cut at the slice's end.
-pub fn value_of<'a>(table: &'a [u8], v: Variable) -> &'a [u8]
-    ensures { λ r. ⌜ now r ≡ take (v .length) (drop (v .start) (now (table .entry))) ⌝ }
-{
-    let start = v.start;
-    let length = v.length;
-    records::part(table, start, length)
 }

@@ -11,9 +11,10 @@ use borrow.Author.Needs.{needs}
 use borrow.Author.Tests.{le-leb, lt-leb}
 use lib.ListN.{length, length-set}
 use Rattle.paper.specs.Refusals.{bad-table}
+use Rattle.paper.specs.declared.Holder.{Holder}
 use Rattle.records.specs.Records.{nextPlace}
 use Rattle.variables.specs.Tables.{sound, badTable, scanned, most, before}
-use Rattle.variables.specs.inner.Keys.{linesOf, laidOver, reach}
+use Rattle.variables.specs.inner.Keys.{linesOf, laidOver, passedLines}
 use Rattle.variables.specs.declared.Checked.{Checked}
 use Rattle.variables.specs.declared.Checked.the-variants.{Good}
 use Rattle.variables.proofs.Good.{next-inside}
@@ -22,12 +23,12 @@ use Rattle.variables.proofs.scan.Statement.{statement}
 use Rattle.variables.proofs.scan.Tie as tie
 
 abbrev Inv-loop : tie.InvT-loop
-Inv-loop table keys₀ count₀ place₀ keys count place =
-    (count ≤ most) × (place ≤ length table) × (length keys₀ ≡ most) × (length keys ≡ most)
-    × (scanned most 0 table 0 ≡ scanned (most - count) count table place) × Passed table keys₀ keys count place
+Inv-loop holder table keys₀ count₀ place₀ keys count place =
+    (count ≤ most) × (place ≤ length table) × (most ≤ length keys₀) × (length keys ≡ length keys₀)
+    × (scanned most 0 table 0 ≡ scanned (most - count) count table place) × Passed holder table keys₀ keys count place
 
 abbrev μ-loop : tie.MeasureT-loop
-μ-loop table keys₀ count₀ place₀ keys count place = length table - place
+μ-loop holder table keys₀ count₀ place₀ keys count place = length table - place
 
 module _ (table : List ℕ) (count place : ℕ) where
   abbrev rest : Checked
@@ -60,12 +61,16 @@ module _ (table : List ℕ) (count place : ℕ) where
       more e q = rw (left, lt-leb (length table) place h, e, q, add-one)
 
 -- a refusal's place is how far the check came
-laid-to : (table keys : List ℕ) (place : ℕ) {r : Checked} → r ≡ badTable bad-table place →
-    laidOver (linesOf (before table place)) keys ≡ laidOver (linesOf (before table (reach table r))) keys
-laid-to table keys place e = ap (λ r. laidOver (linesOf (before table (reach table r))) keys) (sym e)
+laid-to : (holder : Holder) (table keys : List ℕ) (place : ℕ) {r : Checked} → r ≡ badTable bad-table place →
+    laidOver (linesOf holder (before table place)) keys ≡ laidOver (passedLines holder table r) keys
+laid-to holder table keys place e = ap (λ r. laidOver (passedLines holder table r) keys) (sym e)
+
+-- where the loop is entered
+abbrev start : tie.In-loop Inv-loop μ-loop → tie.Start Inv-loop μ-loop
+start t = t .before .before .before .before
 
 loop-holds : tie.Need-loop-holds Inv-loop μ-loop
-loop-holds c = (omega arith, omega arith, omega arith, omega arith, refl, at-first _ _)
+loop-holds c = (omega arith, omega arith, omega arith, omega arith, refl, at-first _ _ _)
 
 same-length : tie.Need-same-length Inv-loop μ-loop
 same-length c = omega arith
@@ -76,14 +81,14 @@ returns c =
     let i = t .before .loop .inv in
     let all : t .before .loop .count ≡ most = omega arith in (
       c .bad-table .ensures ∙ full _ _ _ (t .loop-test .taken) all ∙ sym (i .4),
-      i .5 .laid ∙ laid-to _ _ _ (c .bad-table .ensures),
+      i .5 .laid ∙ laid-to (start t .args .holder) _ (start t .args .keys .now) _ (c .bad-table .ensures),
     )
 
 part-is-sound-end : tie.Need-part-is-sound-end Inv-loop μ-loop
 part-is-sound-end c = omega arith
 
 is-sound-requires : tie.Need-is-sound-requires Inv-loop μ-loop
-is-sound-requires c κs = passed-part _ _ (c .before .before .before .before .loop .inv .5)
+is-sound-requires c κs = (start (c .before .before .before) .args .holder, passed-part _ _ _ (c .before .before .before .before .loop .inv .5))
 
 line-at-requires : tie.Need-line-at-requires Inv-loop μ-loop
 line-at-requires c κs = omega arith
@@ -118,7 +123,7 @@ loop-again c =
       i .2,
       length-set (t .before .loop .keys) (t .before .loop .count) _ ∙ i .3,
       i .4 ∙ on,
-      passed-more _ _ (i .5) few (i .2) (c .before .line-at .ensures) (c .next-place .ensures),
+      passed-more _ _ _ (i .5) few (i .2) (c .before .line-at .ensures) (c .next-place .ensures),
     )
 
 same-length-2 : tie.Need-same-length-2 Inv-loop μ-loop
@@ -132,7 +137,7 @@ returns-2 c =
       c .bad-table2 .ensures
           ∙ bad _ _ _ (t .loop-test .taken) (i .0) (s .before .before .before .if1 .left) (sym (s .is-sound .ensures) ∙ c .before .if2 .left)
           ∙ sym (i .4),
-      i .5 .laid ∙ laid-to _ _ _ (c .bad-table2 .ensures),
+      i .5 .laid ∙ laid-to (start t .args .holder) _ (start t .args .keys .now) _ (c .bad-table2 .ensures),
     )
 
 same-length-3 : tie.Need-same-length-3 Inv-loop μ-loop
@@ -143,7 +148,7 @@ returns-3 c =
     let i = c .before .loop .inv in
     let a = c .before .before .before .before .args in
     let all : c .before .loop .place ≡ length (a .table .now) = omega arith in
-    (at-end _ _ _ (c .loop-test .left) ∙ sym (i .4), i .5 .laid ∙ ap (λ p. laidOver (linesOf (before (a .table .now) p)) (a .keys .now)) all)
+    (at-end _ _ _ (c .loop-test .left) ∙ sym (i .4), i .5 .laid ∙ ap (λ p. laidOver (linesOf (a .holder) (before (a .table .now) p)) (a .keys .now)) all)
 
 pub scan-spec : {M : Type 1} → statement M
 scan-spec =

@@ -11,7 +11,7 @@ use Rattle.records.proofs.names.key_of.Statement.{statement}
 use Rattle.records.proofs.names.key_of.Tie as tie
 
 abbrev Inv-loop : tie.InvT-loop
-Inv-loop name key₀ at₀ key at = (key < 65536) × (keyFrom 0 name ≡ keyFrom key (drop at name))
+Inv-loop name key₀ at₀ key at = (key < 32768) × (keyFrom 0 name ≡ keyFrom key (drop at name))
 
 abbrev μ-loop : tie.MeasureT-loop
 μ-loop name key₀ at₀ key at = length name - at
@@ -40,7 +40,7 @@ loop-again c =
     let name = l .before .before .args .name .now in
     let more = key-more name (l .loop .at) (l .loop .key) (c .before .before .loop-test .taken) in (
       omega arith,
-      l .loop .inv .1 ∙ more ∙ ap (λ s. keyFrom ((31 * l .loop .key + s) % 65536) (drop (l .loop .at + 1) name)) (sym (c .small .ensures)),
+      l .loop .inv .1 ∙ more ∙ ap (λ s. keyFrom ((31 * l .loop .key + s) % 32768) (drop (l .loop .at + 1) name)) (sym (c .small .ensures)),
     )
 
 returns : tie.Need-returns Inv-loop μ-loop

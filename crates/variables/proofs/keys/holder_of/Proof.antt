@@ -1,0 +1,13 @@
+-- `holder_of` meets its contract: its test is the definition's.
+use borrow.Author.Tests.{lt-ltb, le-ltb}
+use Rattle.variables.proofs.keys.holder_of.Statement.{statement}
+use Rattle.variables.proofs.keys.holder_of.Tie as tie
+
+returns : tie.Need-returns
+returns c = rw (lt-ltb _ _ (c .if1 .taken))
+
+returns-2 : tie.Need-returns-2
+returns-2 c = rw (le-ltb _ _ (c .if1 .left))
+
+pub holder-of-spec : {M : Type 1} → statement M
+holder-of-spec = tie.close (tie.spec returns returns-2)
