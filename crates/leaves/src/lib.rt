@@ -1,4 +1,4 @@
-// Leaves of an expression: a number, and a name that is looked up in the table.
+// Leaves of an expression: a number, and a name that is looked up in the tables.
 ghost use mathlib.Core.Path.{_≡_};
 ghost use Rattle.variables.specs.inner.Keys.{soughtBy, matchAs};
 ghost use Rattle.parts.specs.declared.Part.the-variants as Part;
@@ -11,6 +11,7 @@ use parts::Part;
 use records::integers::pattern_of;
 use records::kinds::Kind;
 use variables::Match;
+use variables::both;
 use variables::keys::find;
 
 fn refused(number: u8, place: usize, next: usize) -> Part
@@ -38,10 +39,10 @@ pub fn number(value: u32, next: usize, account: Account) -> Part
 }
 
 // A name must be known, and an integer variable; then it spends one look-up.
-fn look_up(name: &[u8], table: &[u8], keys: &[u32], place: usize, next: usize, left: u32) -> Part
-    ensures { λ r. ⌜ r ≡ foundPart (now (table .entry)) (matchAs (now (table .entry)) (soughtBy (now (table .entry)) (now (keys .entry)) (now (name .entry)))) place next left ⌝ }
+fn look_up<'a>(name: &[u8], farm: &'a [u8], house: &'a [u8], keys: &[u32], place: usize, next: usize, left: u32) -> Part
+    ensures { λ r. ⌜ r ≡ foundPart (now (farm .entry)) (now (house .entry)) (matchAs (now (farm .entry)) (now (house .entry)) (soughtBy (now (farm .entry)) (now (house .entry)) (now (keys .entry)) (now (name .entry)))) place next left ⌝ }
 {
-    match find(table, keys, name) {
+    match find(farm, house, keys, name) {
         Match::Missing => refused(UNKNOWN_NAME, place, next),
         Match::Record(v) => {
             let kind = v.kind;
@@ -53,7 +54,7 @@ fn look_up(name: &[u8], table: &[u8], keys: &[u32], place: usize, next: usize, l
                         return refused(ALLOWANCE_SPENT, place, next);
                     }
                     Part::Value {
-                        value: pattern_of(variables::value_of(table, v)),
+                        value: pattern_of(both::value_of(farm, house, v)),
                         left: left - 1,
                         next,
                     }
@@ -64,18 +65,18 @@ fn look_up(name: &[u8], table: &[u8], keys: &[u32], place: usize, next: usize, l
 }
 
 // Behind a refusal no name is looked up any more. Any keys are gone by, as `find` does.
-pub fn named(
+pub fn named<'a>(
     name: &[u8],
-    table: &[u8],
+    farm: &'a [u8], house: &'a [u8],
     keys: &[u32],
     place: usize,
     next: usize,
     account: Account,
 ) -> Part
-    ensures { λ r. ⌜ r ≡ namedPart (now (table .entry)) (now (keys .entry)) (now (name .entry)) place next account ⌝ }
+    ensures { λ r. ⌜ r ≡ namedPart (now (farm .entry)) (now (house .entry)) (now (keys .entry)) (now (name .entry)) place next account ⌝ }
 {
     match account {
-        Account::Open(left) => look_up(name, table, keys, place, next, left),
+        Account::Open(left) => look_up(name, farm, house, keys, place, next, left),
         Account::Refused {
             number,
             place: first,

@@ -1,4 +1,4 @@
--- What a content stands for by a table's own keys.
+-- What a content stands for by the tables' own keys.
 use mathlib.Core.List.{List}
 use mathlib.Core.Path.{_≡_, ap}
 use Prim.Native.Nat.{ℕ}
@@ -6,6 +6,6 @@ use Rattle.variables.specs.inner.Keys.{Keys}
 use Rattle.variables.proofs.KeysFind.{sought-by-keys}
 use Rattle.references.specs.References.{referredTo, referredIn, referredBy}
 
-pub by-own-keys : (table name keys : List ℕ) → Keys table keys → referredBy table keys name ≡ referredIn table name
+pub by-own-keys : (farm house name keys : List ℕ) → Keys farm house keys → referredBy farm house keys name ≡ referredIn farm house name
 unfolding referredIn referredBy
-by-own-keys table name keys own = ap (λ s. referredTo table s name) (sought-by-keys table name own)
+by-own-keys farm house name keys own = ap (λ s. referredTo farm house s name) (sought-by-keys farm house name own)

@@ -1,4 +1,4 @@
--- What a content stands for: a number, or what a look-up answers, whether that goes through a table or by some keys.
+-- What a content stands for: a number, or what a look-up answers, whether that goes through the tables or by some keys.
 use mathlib.Core.Bool.{true, cond}
 use mathlib.Core.List.{List}
 use Prim.Native.Nat.{ℕ, _%_}
@@ -7,7 +7,7 @@ use Rattle.paper.specs.Refusals.{too-big}
 use Rattle.reader.specs.Reading.{reading, no-limit}
 use Rattle.reader.specs.declared.Reading.{Reading}
 use Rattle.reader.specs.declared.Reading.the-variants.{Value, Refused}
-use Rattle.variables.specs.Tables.{Sought, soughtIn}
+use Rattle.variables.specs.Holdings.{Holding, soughtInBoth}
 use Rattle.variables.specs.inner.Keys.{soughtBy, matchAs}
 use Rattle.variables.specs.declared.Match.{Match}
 use Rattle.variables.specs.declared.Match.the-variants.{Record, Missing}
@@ -33,13 +33,13 @@ referredAs (Value n) named = Number (n .value % 256)
 referredAs (Refused number at) named = cond (eqb number too-big) TooBig named
 
 -- a content, where so much is found of it as a name
-abbrev pub referredTo : List ℕ → Sought → List ℕ → Referred
-referredTo table sought name = referredAs (reading name true no-limit) (matchedAs (matchAs table sought))
+abbrev pub referredTo : List ℕ → List ℕ → Holding → List ℕ → Referred
+referredTo farm house sought name = referredAs (reading name true no-limit) (matchedAs (matchAs farm house sought))
 
--- what it stands for in a table
-unfoldable pub referredIn : List ℕ → List ℕ → Referred
-referredIn table name = referredTo table (soughtIn table name) name
+-- what it stands for in two tables
+unfoldable pub referredIn : List ℕ → List ℕ → List ℕ → Referred
+referredIn farm house name = referredTo farm house (soughtInBoth farm house name) name
 
 -- and by some keys, whatever their lines are
-unfoldable pub referredBy : List ℕ → List ℕ → List ℕ → Referred
-referredBy table keys name = referredTo table (soughtBy table keys name) name
+unfoldable pub referredBy : List ℕ → List ℕ → List ℕ → List ℕ → Referred
+referredBy farm house keys name = referredTo farm house (soughtBy farm house keys name) name

@@ -1,4 +1,4 @@
-// References: what a reference's content stands for, a number or a variable of a table.
+// References: what a reference's content stands for, a number or a variable of the tables.
 ghost use mathlib.Core.Path.{_≡_};
 ghost use mathlib.Core.Bool.{cond};
 ghost use lib.Dec.{eqb};
@@ -49,13 +49,13 @@ fn as_matched(m: Match) -> Referred
 }
 
 // The name path: a number that is too big is refused, and every other content is a name.
-fn as_name(number: u8, content: &[u8], table: &[u8], keys: &[u32]) -> Referred
-    ensures { λ r. ⌜ r ≡ cond (eqb number «too-big») Referred.TooBig (matchedAs (matchAs (now (table .entry)) (soughtBy (now (table .entry)) (now (keys .entry)) (now (content .entry))))) ⌝ }
+fn as_name<'a>(number: u8, content: &[u8], farm: &'a [u8], house: &'a [u8], keys: &[u32]) -> Referred
+    ensures { λ r. ⌜ r ≡ cond (eqb number «too-big») Referred.TooBig (matchedAs (matchAs (now (farm .entry)) (now (house .entry)) (soughtBy (now (farm .entry)) (now (house .entry)) (now (keys .entry)) (now (content .entry))))) ⌝ }
 {
     if number == TOO_BIG {
         return Referred::TooBig;
     }
-    as_matched(find(table, keys, content))
+    as_matched(find(farm, house, keys, content))
 }
 
 fn refusal_of(answer: Reading) -> u8
@@ -67,13 +67,13 @@ fn refusal_of(answer: Reading) -> u8
     }
 }
 
-// What the content of a reference stands for, over a table and some keys: a value becomes a byte, otherwise it goes the name path.
-pub fn resolve(content: &[u8], table: &[u8], keys: &[u32]) -> Referred
-    ensures { λ r. ⌜ r ≡ referredBy (now (table .entry)) (now (keys .entry)) (now (content .entry)) ⌝ }
+// What the content of a reference stands for, over two tables and some keys: a value becomes a byte, otherwise it goes the name path.
+pub fn resolve<'a>(content: &[u8], farm: &'a [u8], house: &'a [u8], keys: &[u32]) -> Referred
+    ensures { λ r. ⌜ r ≡ referredBy (now (farm .entry)) (now (house .entry)) (now (keys .entry)) (now (content .entry)) ⌝ }
 {
     let answer = reader::read_unsigned(content, true, NO_LIMIT);
     let Reading::Value(n) = answer else {
-        return as_name(refusal_of(answer), content, table, keys);
+        return as_name(refusal_of(answer), content, farm, house, keys);
     };
     Referred::Number((n.value % 256) as u8)
 }

@@ -6,10 +6,10 @@ use Rattle.leaves.proofs.named.Statement.{statement}
 use Rattle.leaves.proofs.named.Tie as tie
 
 returns : tie.Need-returns
-returns c = c .look-up .ensures ∙ ap (namedPart _ _ _ _ _) (sym (c .before .before .account .given .1))
+returns c = c .look-up .ensures ∙ ap (namedPart _ _ _ _ _ _) (sym (c .before .before .account .given .1))
 
 returns-2 : tie.Need-returns-2
-returns-2 c = ap (namedPart _ _ _ _ _) (sym (c .before .account2 .given .1))
+returns-2 c = ap (namedPart _ _ _ _ _ _) (sym (c .before .account2 .given .1))
 
 pub named-spec : {M : Type 1} → statement M
 named-spec =

@@ -17,25 +17,25 @@ use Rattle.references.specs.declared.Referred.the-variants.{Number, TooB
 use Rattle.references.proofs.resolve.Statement.{statement}
 use Rattle.references.proofs.resolve.Tie as tie
 
-by-name : (name table keys : List ℕ) (answer : Reading) (x : ℕ) (y : _) (number : ℕ) (r : Referred)
+by-name : (name farm house keys : List ℕ) (answer : Reading) (x : ℕ) (y : _) (number : ℕ) (r : Referred)
     → answer ≡ reading name true no-limit → answer ≡ Refused x y → number ≡ readNumber answer
-    → r ≡ cond (eqb number too-big) TooBig (matchedAs (matchAs table (soughtBy table keys name))) → r ≡ referredBy table keys name
+    → r ≡ cond (eqb number too-big) TooBig (matchedAs (matchAs farm house (soughtBy farm house keys name))) → r ≡ referredBy farm house keys name
 unfolding referredBy
-by-name name table keys answer x y number r a e n h =
-    let named = matchedAs (matchAs table (soughtBy table keys name)) in
+by-name name farm house keys answer x y number r a e n h =
+    let named = matchedAs (matchAs farm house (soughtBy farm house keys name)) in
     h ∙ ap (λ k. cond (eqb k too-big) TooBig named) (n ∙ ap readNumber e) ∙ ap (λ r. referredAs r named) (sym e ∙ a)
 
 returns : tie.Need-returns
 returns c =
-    by-name _ _ _ _ _ _ _ _ (c .before .before .before .before .read-unsigned .ensures) (c .before .before .enum-told .given .1) (c .before .refusal-of .ensures) (c .as-name .ensures)
+    by-name _ _ _ _ _ _ _ _ _ (c .before .before .before .before .read-unsigned .ensures) (c .before .before .enum-told .given .1) (c .before .refusal-of .ensures) (c .as-name .ensures)
 
-valued : (name table keys : List ℕ) (answer : Reading) (n : Valued) → answer ≡ reading name true no-limit → answer ≡ Value n
-    → Number (n .value % 256) ≡ referredBy table keys name
+valued : (name farm house keys : List ℕ) (answer : Reading) (n : Valued) → answer ≡ reading name true no-limit → answer ≡ Value n
+    → Number (n .value % 256) ≡ referredBy farm house keys name
 unfolding referredBy
-valued name table keys answer n a v = ap (λ r. referredAs r (matchedAs (matchAs table (soughtBy table keys name)))) (sym v ∙ a)
+valued name farm house keys answer n a v = ap (λ r. referredAs r (matchedAs (matchAs farm house (soughtBy farm house keys name)))) (sym v ∙ a)
 
 returns-2 : tie.Need-returns-2
-returns-2 c = valued _ _ _ _ _ (c .before .before .before .before .read-unsigned .ensures) (c .before .before .answer .given .1)
+returns-2 c = valued _ _ _ _ _ _ (c .before .before .before .before .read-unsigned .ensures) (c .before .before .answer .given .1)
 
 pub resolve-spec : {M : Type 1} → statement M
 resolve-spec =
