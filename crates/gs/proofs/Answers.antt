@@ -1,4 +1,4 @@
--- A translation in the paper's numbers, by what was found of the text and its table, and what the buffer holds by the number alone.
+-- A translation in the paper's numbers, by what was found of the text and its tables, and what the buffer holds by the number alone.
 use mathlib.Core.List.{List, _++_}
 use mathlib.Core.Path.{_≡_, refl, ap, sym, _∙_}
 use Prim.Native.Nat.{ℕ, _<_}
@@ -6,13 +6,15 @@ use native.Mathlib.Omega.{arith}
 use borrow.Author.Tests.{eqb-false}
 use lib.Dec.{ltb, eqb}
 use lib.ListN.{length, drop}
-use Rattle.paper.specs.Answers.{in-text, in-table, Answer, refusal}
+use Rattle.paper.specs.Answers.{in-text, countedIn, Answer, refusal}
 use Rattle.paper.specs.Refusals.{over-length}
+use Rattle.paper.specs.declared.Holder.{Holder}
 use Rattle.paper.specs.Traces.{bytes, Run, finished, refused, run, fit, answer, allowed}
 use Rattle.paper.proofs.Choice.{either, other}
 use Rattle.paper.proofs.DemandThree.{refused-number}
-use Rattle.variables.specs.Judgements.{Judged, good, long-text, bad-table, judgement}
-use Rattle.variables.proofs.Judging.{bad-number}
+use Rattle.variables.specs.Judgements.{Judgement, good, long-text, bad-table, judgement}
+use Rattle.variables.proofs.Judging.{refused as tables-refused}
+use Rattle.variables.proofs.Bounds.{bad-number}
 use Rattle.gs.specs.Translations.{readingOf, translatedBy, translatedOver, translated, leftBy, outAfter, translatedAnswer}
 use Rattle.gs.specs.declared.Translated.{Translated}
 use Rattle.gs.specs.declared.Translated.the-variants.{Written, Refused, BadTable}
@@ -25,68 +27,69 @@ told-fit (finished end left) need room n =
 told-fit (refused number place) need room n =
     ap translatedAnswer (sym (other number 0 _ _ (λ z. absurd (omega (arith, n number place refl))) refl))
 
-module _ (text table : List ℕ) (flags allowance room : ℕ) where
-  abbrev told : Judged → Answer
-  told j = translatedAnswer (translatedOver j (readingOf text table flags) allowance room)
+module _ (text farm house : List ℕ) (flags allowance room : ℕ) where
+  abbrev told : Judgement → Answer
+  told j = translatedAnswer (translatedOver j (readingOf text farm house flags) allowance room)
 
-  pub good-answer : judgement text table ≡ good
-      → translatedAnswer (translated text table flags allowance room) ≡ answer (readingOf text table flags) (allowed allowance) room
+  pub good-answer : judgement text farm house ≡ good
+      → translatedAnswer (translated text farm house flags allowance room) ≡ answer (readingOf text farm house flags) (allowed allowance) room
   unfolding translated
   good-answer e =
-      let t = readingOf text table flags in
+      let t = readingOf text farm house flags in
       ap told e ∙ told-fit (run t (allowed allowance)) (length (bytes t)) room (λ n p q. refused-number t (allowed allowance) n p q .0)
 
-  pub long-text-answer : judgement text table ≡ long-text
-      → translatedAnswer (translated text table flags allowance room) ≡ refusal over-length in-text 0 room
+  pub long-text-answer : judgement text farm house ≡ long-text
+      → translatedAnswer (translated text farm house flags allowance room) ≡ refusal over-length in-text 0 room
   unfolding translated
   long-text-answer e = ap told e
 
-  pub bad-table-answer : (number place : ℕ) → judgement text table ≡ bad-table number place
-      → translatedAnswer (translated text table flags allowance room) ≡ refusal number in-table place room
+  pub bad-table-answer : (number : ℕ) (holder : Holder) (place : ℕ) → judgement text farm house ≡ bad-table number holder place
+      → translatedAnswer (translated text farm house flags allowance room) ≡ refusal number (countedIn holder) place room
   unfolding translated
-  bad-table-answer number place e = ap told e
+  bad-table-answer number holder place e = ap told e
 
 -- a translation that is refused has a number
 abbrev Numbered : Translated → Type 0
 Numbered (Written end need free) = Unit {0}
 Numbered (Refused number at need free) = 0 < number
-Numbered (BadTable number at free) = 0 < number
+Numbered (BadTable number holder at free) = 0 < number
 
 by-numbered : (a : Answer) → Numbered (translatedBy a)
 by-numbered a = either Numbered (eqb (a .number) 0) (λ _. tt) (λ e. let n = eqb-false (a .number) 0 e in omega arith)
 
-module _ (text table : List ℕ) (flags allowance room : ℕ) where
-  over-numbered : (j : Judged) → judgement text table ≡ j → Numbered (translatedOver j (readingOf text table flags) allowance room)
-  over-numbered good e = by-numbered (answer (readingOf text table flags) (allowed allowance) room)
+module _ (text farm house : List ℕ) (flags allowance room : ℕ) where
+  over-numbered : (j : Judgement) → judgement text farm house ≡ j → Numbered (translatedOver j (readingOf text farm house flags) allowance room)
+  over-numbered good e = by-numbered (answer (readingOf text farm house flags) (allowed allowance) room)
   over-numbered long-text e = omega arith
-  over-numbered (bad-table number place) e = omega (arith, bad-number text table number place e)
+  over-numbered (bad-table number holder place) e =
+      omega (arith, bad-number farm house number holder place (tables-refused text farm house number holder place e .1))
 
-  numbered : Numbered (translated text table flags allowance room)
+  numbered : Numbered (translated text farm house flags allowance room)
   unfolding translated
-  numbered = over-numbered (judgement text table) refl
+  numbered = over-numbered (judgement text farm house) refl
 
 module _ (given out : List ℕ) where
   left-written : (r : Translated) → Numbered r → translatedAnswer r .number ≡ 0 → leftBy r given out ≡ given ++ drop (translatedAnswer r .need) out
   left-written (Written end need free) n e = refl
   left-written (Refused number at need free) n e = absurd (omega arith)
-  left-written (BadTable number at free) n e = absurd (omega arith)
+  left-written (BadTable number holder at free) n e = absurd (omega arith)
 
   left-refused : (r : Translated) → (translatedAnswer r .number ≡ 0 → ⊥) → leftBy r given out ≡ out
   left-refused (Written end need free) n = absurd (n refl)
   left-refused (Refused number at need free) n = refl
-  left-refused (BadTable number at free) n = refl
+  left-refused (BadTable number holder at free) n = refl
 
-module _ (text table : List ℕ) (flags allowance : ℕ) (out : List ℕ) where
+module _ (text farm house : List ℕ) (flags allowance : ℕ) (out : List ℕ) where
   -- accepted: the bytes of the reading, and behind them what was there
-  pub written-buffer : translatedAnswer (translated text table flags allowance (length out)) .number ≡ 0
-      → outAfter text table flags allowance out
-      ≡ bytes (readingOf text table flags) ++ drop (translatedAnswer (translated text table flags allowance (length out)) .need) out
+  pub written-buffer : translatedAnswer (translated text farm house flags allowance (length out)) .number ≡ 0
+      → outAfter text farm house flags allowance out
+      ≡ bytes (readingOf text farm house flags) ++ drop (translatedAnswer (translated text farm house flags allowance (length out)) .need) out
   unfolding outAfter
   written-buffer e =
-      left-written (bytes (readingOf text table flags)) out (translated text table flags allowance (length out))
-      (numbered text table flags allowance (length out)) e
+      left-written (bytes (readingOf text farm house flags)) out (translated text farm house flags allowance (length out))
+      (numbered text farm house flags allowance (length out)) e
 
   -- any other number: as it was
-  pub kept-buffer : (translatedAnswer (translated text table flags allowance (length out)) .number ≡ 0 → ⊥) → outAfter text table flags allowance out ≡ out
+  pub kept-buffer : (translatedAnswer (translated text farm house flags allowance (length out)) .number ≡ 0 → ⊥) → outAfter text farm house flags allowance out ≡ out
   unfolding outAfter
-  kept-buffer n = left-refused (bytes (readingOf text table flags)) out (translated text table flags allowance (length out)) n
+  kept-buffer n = left-refused (bytes (readingOf text farm house flags)) out (translated text farm house flags allowance (length out)) n

@@ -8,8 +8,9 @@ use Rattle.paper.specs.Traces.{asks, spends, bytes, run, onward}
 use Rattle.records.specs.Kinds.{pattern}
 use Rattle.variables.specs.Names.{Meaning}
 use Rattle.forms.specs.Calls.{decimalOf}
+use Rattle.variables.specs.Lookups.{partOf}
 use Rattle.gs.specs.Readings.{Expand, givesAll, wholeText, expands}
-use Rattle.gs.specs.inner.Steps.{Laid, Came, came-going, came-refused, Read, read-ended, read-refused, partOf, pieceOf, progressOf}
+use Rattle.gs.specs.inner.Steps.{Laid, Came, came-going, came-refused, Read, read-ended, read-refused, pieceOf, progressOf}
 use Rattle.references.specs.declared.Referred.{Referred}
 use Rattle.references.specs.declared.Referred.the-variants.{Number, TooBig, Unknown, Text, Integer, Macro}
 use Rattle.gs.specs.declared.steps.Progress.{Progress}
@@ -17,59 +18,59 @@ use Rattle.gs.specs.declared.steps.Progress.the-variants.{Going, Refused
 use Rattle.gs.specs.declared.steps.Expanded.{Expanded}
 use Rattle.records.specs.declared.Variable.{Variable}
 
-module _ (table : List ℕ) (referred : Referred) (name : List ℕ) (left place to : ℕ) (out : List ℕ) where
+module _ (farm house : List ℕ) (referred : Referred) (name : List ℕ) (left place to : ℕ) (out : List ℕ) where
   module _ (expand : Expand) where
     abbrev Gives : List ℕ → Progress → Type 0
-    Gives after r = Came (pieceOf table expand referred name place) left to out after r
+    Gives after r = Came (pieceOf farm house expand referred name place) left to out after r
 
-    number-from : (b : ℕ) (after : List ℕ) → Laid out to (b ∷ []) after → Came (pieceOf table expand (Number b) name place) left to out after (Going (record { to = to + 1; left = left }))
+    number-from : (b : ℕ) (after : List ℕ) → Laid out to (b ∷ []) after → Came (pieceOf farm house expand (Number b) name place) left to out after (Going (record { to = to + 1; left = left }))
     unfolding pieceOf
     number-from b after laid = came-going left (b ∷ []) (record { runs = λ rest. refl; gives = λ rest. refl; small = omega arith }) laid
 
     pub number-gives : (b : ℕ) (after : List ℕ) → referred ≡ Number b → Laid out to (b ∷ []) after → Gives after (Going (record { to = to + 1; left = left }))
     number-gives b after e laid =
-        subst (λ r. Came (pieceOf table expand r name place) left to out after (Going (record { to = to + 1; left = left }))) (sym e) (number-from b after laid)
+        subst (λ r. Came (pieceOf farm house expand r name place) left to out after (Going (record { to = to + 1; left = left }))) (sym e) (number-from b after laid)
 
-    too-big-from : Came (pieceOf table expand TooBig name place) left to out out (Refused 4 place)
+    too-big-from : Came (pieceOf farm house expand TooBig name place) left to out out (Refused 4 place)
     unfolding pieceOf
     too-big-from = came-refused 4 place refl (λ rest. refl)
 
     pub too-big-gives : (r : Progress) → referred ≡ TooBig → r ≡ Refused 4 place → Gives out r
-    too-big-gives r e s = subst₂ (λ k r. Came (pieceOf table expand k name place) left to out out r) (sym e) (sym s) too-big-from
+    too-big-gives r e s = subst₂ (λ k r. Came (pieceOf farm house expand k name place) left to out out r) (sym e) (sym s) too-big-from
 
-    unknown-from : Came (pieceOf table expand Unknown name place) left to out out (Refused 10 place)
+    unknown-from : Came (pieceOf farm house expand Unknown name place) left to out out (Refused 10 place)
     unfolding pieceOf
     unknown-from = came-refused 10 place refl (λ rest. refl)
 
     pub unknown-gives : (r : Progress) → referred ≡ Unknown → r ≡ Refused 10 place → Gives out r
-    unknown-gives r e s = subst₂ (λ k r. Came (pieceOf table expand k name place) left to out out r) (sym e) (sym s) unknown-from
+    unknown-gives r e s = subst₂ (λ k r. Came (pieceOf farm house expand k name place) left to out out r) (sym e) (sym s) unknown-from
 
     text-from : (v : Variable) (after : List ℕ) (r : Progress)
-        → Came (λ rest. asks name (spends place (givesAll (partOf table v) rest))) left to out after r → Came (pieceOf table expand (Text v) name place) left to out after r
+        → Came (λ rest. asks name (spends place (givesAll (partOf farm house v) rest))) left to out after r → Came (pieceOf farm house expand (Text v) name place) left to out after r
     unfolding pieceOf
     text-from v after r c = c
 
-    pub text-gives : (v : Variable) (value after : List ℕ) (r : Progress) → referred ≡ Text v → value ≡ partOf table v
+    pub text-gives : (v : Variable) (value after : List ℕ) (r : Progress) → referred ≡ Text v → value ≡ partOf farm house v
         → Came (λ rest. asks name (spends place (givesAll value rest))) left to out after r → Gives after r
     text-gives v value after r e p c =
-        subst (λ k. Came (pieceOf table expand k name place) left to out after r) (sym e)
+        subst (λ k. Came (pieceOf farm house expand k name place) left to out after r) (sym e)
         (text-from v after r (subst (λ bs. Came (λ rest. asks name (spends place (givesAll bs rest))) left to out after r) p c))
 
     integer-from : (v : Variable) (after : List ℕ) (r : Progress)
-        → Came (λ rest. asks name (spends place (givesAll (decimalOf (pattern (partOf table v))) rest))) left to out after r
-        → Came (pieceOf table expand (Integer v) name place) left to out after r
+        → Came (λ rest. asks name (spends place (givesAll (decimalOf (pattern (partOf farm house v))) rest))) left to out after r
+        → Came (pieceOf farm house expand (Integer v) name place) left to out after r
     unfolding pieceOf
     integer-from v after r c = c
 
-    pub integer-gives : (v : Variable) (value after : List ℕ) (r : Progress) → referred ≡ Integer v → value ≡ partOf table v
+    pub integer-gives : (v : Variable) (value after : List ℕ) (r : Progress) → referred ≡ Integer v → value ≡ partOf farm house v
         → Came (λ rest. asks name (spends place (givesAll (decimalOf (pattern value)) rest))) left to out after r → Gives after r
     integer-gives v value after r e p c =
-        subst (λ k. Came (pieceOf table expand k name place) left to out after r) (sym e)
+        subst (λ k. Came (pieceOf farm house expand k name place) left to out after r) (sym e)
         (integer-from v after r (subst (λ bs. Came (λ rest. asks name (spends place (givesAll (decimalOf (pattern bs)) rest))) left to out after r) p c))
 
   module _ (names : List ℕ → Meaning) (levels : ℕ) (v : Variable) (macro : referred ≡ Macro v) where
     abbrev Came-by : ℕ → ℕ → Referred → List ℕ → Progress → Type 0
-    Came-by levels left k after r = Came (pieceOf table (expands names levels) k name place) left to out after r
+    Came-by levels left k after r = Came (pieceOf farm house (expands names levels) k name place) left to out after r
 
     deep-from : Came-by 0 left (Macro v) out (Refused 11 place)
     unfolding pieceOf expands
@@ -91,18 +92,18 @@ module _ (table : List ℕ) (referred : Referred) (name : List ℕ) (left place 
         (subst (λ l. Came-by l left (Macro v) out r) up
         (subst₂ (λ f r. Came-by (suc (levels - 1)) f (Macro v) out r) (sym z) (sym s) (spent-from (levels - 1))))
 
-    value-from : (l m : ℕ) (after : List ℕ) (came : Expanded) → length (partOf table v) ≤ 255
-        → Read (wholeText names (expands names l) (partOf table v) 0) (length (partOf table v)) m to out after came
+    value-from : (l m : ℕ) (after : List ℕ) (came : Expanded) → length (partOf farm house v) ≤ 255
+        → Read (wholeText names (expands names l) (partOf farm house v) 0) (length (partOf farm house v)) m to out after came
         → Came-by (suc l) (suc m) (Macro v) after (progressOf came place)
     unfolding pieceOf expands
     value-from l m after came short (read-ended end left′ runs small laid) =
-        came-going left′ (bytes (wholeText names (expands names l) (partOf table v) 0))
+        came-going left′ (bytes (wholeText names (expands names l) (partOf farm house v) 0))
         (record { runs = λ rest. ap (λ r. onward r place (run rest)) runs; gives = λ rest. refl; small = omega arith })
         laid
     value-from l m after came short (read-refused number inner long runs) =
         came-refused number place long (λ rest. ap (λ r. onward r place (run rest)) runs)
 
-    pub value-gives : (value after : List ℕ) (came : Expanded) (r : Progress) → (levels ≡ 0 → ⊥) → (left ≡ 0 → ⊥) → value ≡ partOf table v
+    pub value-gives : (value after : List ℕ) (came : Expanded) (r : Progress) → (levels ≡ 0 → ⊥) → (left ≡ 0 → ⊥) → value ≡ partOf farm house v
         → length value ≤ 255 → Read (wholeText names (expands names (levels - 1)) value 0) (length value) (left - 1) to out after came
         → r ≡ progressOf came place → Came-by levels left referred after r
     value-gives value after came r n f p short read s =

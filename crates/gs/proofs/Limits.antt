@@ -21,23 +21,25 @@ use Rattle.forms.specs.Calls.{decimalOf}
 use Rattle.forms.specs.declared.forms.Width.the-variants.{Word}
 use Rattle.numbers.proofs.Bounds.{decimal-short}
 use Rattle.symbols.specs.Symbols.{symbolAt, firstAt, modeOf}
+use Rattle.gs.proofs.Pieces.{AllBytes}
 use Rattle.gs.specs.Readings.{givesAll, deepest, Expand, nameGives, contentGives, symbolGives, symbolsFrom, wholeText, expands}
 use Rattle.gs.specs.Translations.{readingOf, translatedBy, translatedOver, translated, translatedAnswer, metNumbers, translateNumbers}
 use Rattle.gs.specs.declared.Translated.{Translated}
 use Rattle.symbols.specs.declared.forms.Mode.{Mode}
 use Rattle.symbols.specs.declared.forms.Symbol.{Symbol}
 use Rattle.symbols.specs.declared.forms.Symbol.the-variants.{End, Byte, Reference as Names, Faulty}
+use Rattle.paper.specs.declared.Holder.{Holder}
 use Rattle.records.specs.Records.{Entry, valueLength, valueStart, valueAt, entryAt}
 use Rattle.records.specs.Kinds.{kindOf}
 use Rattle.records.specs.declared.kinds.Kind.{Kind}
 use Rattle.records.specs.declared.kinds.Kind.the-variants.{Text, Integer, Macro}
-use Rattle.variables.specs.Tables.{Sought, absent, present, checked, soughtIn}
+use Rattle.variables.specs.Holdings.{heldBy, Holding, nowhere, held, soughtInBoth}
 use Rattle.variables.specs.Names.{Meaning, unknown, string-of, integer-of, macro-of, valueAs, meant, inReading, namesOf}
-use Rattle.variables.specs.Judgements.{judgedBy}
-use Rattle.variables.specs.declared.Checked.{Checked}
-use Rattle.variables.specs.declared.Checked.the-variants.{Good, BadTable}
-use Rattle.variables.proofs.Bounds.{Bounded, checked-bounded}
-use Rattle.variables.proofs.Own.{Own, sought-own}
+use Rattle.variables.specs.Judgements.{judged, judgedBy}
+use Rattle.variables.specs.declared.both.Judged.{Judged}
+use Rattle.variables.specs.declared.both.Judged.the-variants.{Good as AllGood, BadTable as OneBad}
+use Rattle.variables.proofs.Bounds.{Within, judged-within}
+use Rattle.variables.proofs.Own.{OwnHeld, both-own}
 use Rattle.symbols.proofs.Places.{Stands, quoteOf, symbol-stands, first-stands}
 use Rattle.gs.proofs.Meetings.{read-met}
 use Rattle.gs.proofs.Orders.{in-order}
@@ -154,30 +156,31 @@ expands-paid names fits (suc levels) =
           l);
     }
 
-module _ (table : List ℕ) (bs : (k : ℕ) → getD table k 0 ≤ 255) where
+module _ (farm house : List ℕ) (bs : AllBytes farm house) where
   kind-fits : (k : Kind) (value : List ℕ) → length value ≤ 255 → Fitting (valueAs k value)
   kind-fits Text value h = string-fits h
   kind-fits Integer value h = integer-fits
   kind-fits Macro value h = macro-fits h
 
-  entry-fits : (e : Entry) → e ≡ entryAt table (e .place) → Fitting (meant e)
+  entry-fits : (holder : Holder) (e : Entry) → e ≡ entryAt (heldBy holder farm house) (e .place) → Fitting (meant e)
   unfolding meant entryAt valueAt
-  entry-fits e h =
+  entry-fits holder e h =
+      let table = heldBy holder farm house in
       let value : e .value ≡ take (valueLength table (e .place)) (drop (valueStart table (e .place)) table) = ap (λ (f : Entry). f .value) h in
       kind-fits (kindOf (e .kind)) (e .value)
-      (omega (arith, ap length value, length-take (valueLength table (e .place)) (drop (valueStart table (e .place)) table), bs (e .place + 4)))
+      (omega (arith, ap length value, length-take (valueLength table (e .place)) (drop (valueStart table (e .place)) table), bs holder (e .place + 4)))
 
-  sought-fits : (s : Sought) → Own table s → Fitting (inReading s)
-  sought-fits absent o = unknown-fits
-  sought-fits (present e) o = entry-fits e (o .own e refl)
+  sought-fits : (h : Holding) → OwnHeld farm house h → Fitting (inReading h)
+  sought-fits nowhere o = unknown-fits
+  sought-fits (held holder e) o = entry-fits holder e (o .own holder e refl)
 
-  pub names-fit : (name : List ℕ) → Fitting (namesOf table name)
-  names-fit name = sought-fits (soughtIn table name) (sought-own table name)
+  pub names-fit : (name : List ℕ) → Fitting (namesOf farm house name)
+  names-fit name = sought-fits (soughtInBoth farm house name) (both-own farm house name)
 
 -- the numbers of an answer are listed, whatever the bytes are
-module _ (text table : List ℕ) (flags allowance room : ℕ) where
+module _ (text farm house : List ℕ) (flags allowance room : ℕ) where
   abbrev reads : Trace
-  reads = readingOf text table flags
+  reads = readingOf text farm house flags
 
   abbrev Numbered : Translated → Type 0
   Numbered r = List·Memᴰ (translatedAnswer r .number) translateNumbers
@@ -187,16 +190,16 @@ module _ (text table : List ℕ) (flags allowance room : ℕ) where
       either (λ a. Numbered (translatedBy a)) (ltb room (length (bytes reads))) (λ _. member no-room translateNumbers refl) (λ _. member 0 translateNumbers refl)
   listed-by (refused number place) l = either Numbered (eqb number 0) (λ _. member 0 translateNumbers refl) (λ _. l)
 
-  listed-over : (d : Checked) → Bounded d → Numbered (translatedOver (judgedBy d) reads allowance room)
-  listed-over (Good count) b =
+  listed-over : (d : Judged) → Within d → Numbered (translatedOver (judgedBy d) reads allowance room)
+  listed-over (AllGood count) b =
       listed-by (run reads (allowed allowance))
-      (run-listed translateNumbers (member allowance-spent translateNumbers refl) (read-met (namesOf table) 0 text flags .listed) (allowed allowance))
-  listed-over (BadTable number at) b = Memᴰ·append-left metNumbers (b .listed)
+      (run-listed translateNumbers (member allowance-spent translateNumbers refl) (read-met (namesOf farm house) 0 text flags .listed) (allowed allowance))
+  listed-over (OneBad number holder at) b = Memᴰ·append-left metNumbers (b .2)
 
-  pub translated-listed : List·Memᴰ (translatedAnswer (translated text table flags allowance room) .number) translateNumbers
+  pub translated-listed : List·Memᴰ (translatedAnswer (translated text farm house flags allowance room) .number) translateNumbers
   translated-listed =
-      in-order text table flags allowance room Numbered (member over-length translateNumbers refl)
-      (λ _. listed-over (checked table) (checked-bounded table))
+      in-order text farm house flags allowance room Numbered (member over-length translateNumbers refl)
+      (λ _. listed-over (judged farm house) (judged-within farm house))
 
 -- how far the numbers of an answer go
 pub record Limited (a : Answer) : Type 0 where
@@ -204,16 +207,16 @@ pub record Limited (a : Answer) : Type 0 where
   pub place : a .place ≤ longest
   pub need : a .need ≤ 326655
 
-module _ (text table : List ℕ) (flags allowance room : ℕ) (bs : (k : ℕ) → getD table k 0 ≤ 255) where
+module _ (text farm house : List ℕ) (flags allowance room : ℕ) (bs : AllBytes farm house) where
   abbrev t : Trace
-  t = readingOf text table flags
+  t = readingOf text farm house flags
 
   short-reading : Short (length text) t
   short-reading =
-      whole-short (namesOf table) (names-fit table bs) (expands (namesOf table) deepest) (expands-paid (namesOf table) (names-fit table bs) deepest) text flags
+      whole-short (namesOf farm house) (names-fit farm house bs) (expands (namesOf farm house) deepest) (expands-paid (namesOf farm house) (names-fit farm house bs) deepest) text flags
 
   placed-run : {r : Run} → run t (allowed allowance) ≡ r → runPlace r ≤ length text
-  placed-run e = subst (λ r. runPlace r ≤ length text) e (run-placed (read-met (namesOf table) 0 text flags .placed) (allowed allowance))
+  placed-run e = subst (λ r. runPlace r ≤ length text) e (run-placed (read-met (namesOf farm house) 0 text flags .placed) (allowed allowance))
 
   limited-by : (r : Run) → length text ≤ longest → run t (allowed allowance) ≡ r → Limited (translatedAnswer (translatedBy (fit r (length (bytes t)) room)))
   limited-by (finished end left) h e =
@@ -230,12 +233,12 @@ module _ (text table : List ℕ) (flags allowance room : ℕ) (bs : (k : ℕ) �
       (λ _. record { number = omega arith; place = omega arith; need = omega arith })
       (λ _. record { number = omega arith; place = omega arith; need = omega arith })
 
-  limited-over : (d : Checked) → Bounded d → length text ≤ longest → Limited (translatedAnswer (translatedOver (judgedBy d) t allowance room))
-  limited-over (Good count) b h = limited-by (run t (allowed allowance)) h refl
-  limited-over (BadTable number at) b h = record { number = b .number; place = b .place; need = omega arith }
+  limited-over : (d : Judged) → Within d → length text ≤ longest → Limited (translatedAnswer (translatedOver (judgedBy d) t allowance room))
+  limited-over (AllGood count) b h = limited-by (run t (allowed allowance)) h refl
+  limited-over (OneBad number holder at) b h = record { number = b .0; place = b .1; need = omega arith }
 
-  pub translated-limited : Limited (translatedAnswer (translated text table flags allowance room))
+  pub translated-limited : Limited (translatedAnswer (translated text farm house flags allowance room))
   translated-limited =
-      in-order text table flags allowance room (λ r. Limited (translatedAnswer r))
+      in-order text farm house flags allowance room (λ r. Limited (translatedAnswer r))
       (record { number = omega arith; place = omega arith; need = omega arith })
-      (limited-over (checked table) (checked-bounded table))
+      (limited-over (judged farm house) (judged-within farm house))

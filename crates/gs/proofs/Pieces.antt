@@ -16,20 +16,23 @@ use Rattle.paper.proofs.Choice.{either}
 use Rattle.reader.specs.Reading.{reading, no-limit}
 use Rattle.reader.specs.declared.Reading.{Reading}
 use Rattle.reader.specs.declared.Reading.the-variants.{Value, Refused}
+use Rattle.paper.specs.declared.Holder.{Holder}
+use Rattle.paper.specs.declared.Holder.the-variants.{Farm, House}
 use Rattle.records.specs.Kinds.{kindOf, variableAt, pattern}
 use Rattle.records.specs.declared.Variable.{Variable}
 use Rattle.records.specs.declared.kinds.Kind.{Kind}
 use Rattle.records.specs.declared.kinds.Kind.the-variants.{Text, Integer, Macro}
 use Rattle.records.proofs.Whole.{own-value}
-use Rattle.variables.specs.Tables.{Sought, absent, present, soughtIn}
+use Rattle.variables.specs.Holdings.{heldBy, Holding, nowhere, held, soughtInBoth}
+use Rattle.variables.specs.Lookups.{partOf}
 use Rattle.variables.specs.Names.{valueAs, meant, inReading, namesOf}
 use Rattle.variables.specs.inner.Keys.{matchAs}
-use Rattle.variables.proofs.Own.{Own, sought-own}
+use Rattle.variables.proofs.Own.{OwnHeld, both-own}
 use Rattle.forms.specs.Calls.{decimalOf}
 use Rattle.gs.specs.Readings.{Expand, givesAll, nameGives, contentGives}
 use Rattle.references.specs.References.{kinded, matchedAs, referredAs, referredIn}
 use Rattle.runs.specs.Output.{laidAt}
-use Rattle.gs.specs.inner.Steps.{Laid, Passes, partOf, pieceOf, lengthIn}
+use Rattle.gs.specs.inner.Steps.{Laid, Passes, pieceOf, lengthIn}
 use Rattle.references.specs.declared.Referred.{Referred}
 use Rattle.references.specs.declared.Referred.the-variants.{TooBig}
 
@@ -76,60 +79,72 @@ laid-more out xs ys middle after to first second =
           ∙ sym (sets-append xs ys out to);
     }
 
--- what a name means in a table, and the record that a look-up hands out for it
-abbrev handed : List ℕ → Sought → Referred
-handed table s = matchedAs (matchAs table s)
+-- what a name means in two tables, and the record that a look-up hands out for it
+abbrev handed : List ℕ → List ℕ → Holding → Referred
+handed farm house h = matchedAs (matchAs farm house h)
 
-module _ (table name : List ℕ) (expand : Expand) (place : ℕ) (rest : Trace) where
-  name-piece : (s : Sought) → Own table s
-      → asks name (nameGives expand (inReading s) name place rest) ≡ pieceOf table expand (handed table s) name place rest
+module _ (farm house name : List ℕ) (expand : Expand) (place : ℕ) (rest : Trace) where
+  name-piece : (h : Holding) → OwnHeld farm house h
+      → asks name (nameGives expand (inReading h) name place rest) ≡ pieceOf farm house expand (handed farm house h) name place rest
   unfolding nameGives pieceOf meant
-  name-piece absent o = refl
-  name-piece (present e) o = kinds (kindOf (e .kind))
+  name-piece nowhere o = refl
+  name-piece (held holder e) o = kinds (kindOf (e .kind))
     where
-      part : e .value ≡ partOf table (variableAt table e)
-      part = own-value table e (o .own e refl)
+      v : Variable
+      v = variableAt holder (heldBy holder farm house) e
+
+      part : e .value ≡ partOf farm house v
+      part = own-value holder (heldBy holder farm house) e (o .own holder e refl)
 
       kinds : (k : Kind)
           → asks name (nameGives expand (valueAs k (e .value)) name place rest)
-          ≡ pieceOf table expand (kinded k (variableAt table e)) name place rest
+          ≡ pieceOf farm house expand (kinded k v) name place rest
       kinds Text = ap (λ v. asks name (spends place (givesAll v rest))) part
       kinds Integer = ap (λ v. asks name (spends place (givesAll (decimalOf (pattern v)) rest))) part
       kinds Macro = ap (λ v. asks name (expand name place v rest)) part
 
-  read-piece : (r : Reading) (s : Sought) → Own table s → namesOf table name ≡ inReading s
-      → contentGives (namesOf table) expand r name place rest ≡ pieceOf table expand (referredAs r (handed table s)) name place rest
+  read-piece : (r : Reading) (h : Holding) → OwnHeld farm house h → namesOf farm house name ≡ inReading h
+      → contentGives (namesOf farm house) expand r name place rest ≡ pieceOf farm house expand (referredAs r (handed farm house h)) name place rest
   unfolding contentGives pieceOf
-  read-piece (Value n) s o e = refl
-  read-piece (Refused number at) s o e = big (eqb number too-big)
+  read-piece (Value n) h o e = refl
+  read-piece (Refused number at) h o e = big (eqb number too-big)
     where
       big : (b : Bool)
-          → cond b (faults Faults.TooBig place) (asks name (nameGives expand (namesOf table name) name place rest))
-          ≡ pieceOf table expand (cond b TooBig (handed table s)) name place rest
+          → cond b (faults Faults.TooBig place) (asks name (nameGives expand (namesOf farm house name) name place rest))
+          ≡ pieceOf farm house expand (cond b TooBig (handed farm house h)) name place rest
       big true = refl
-      big false = ap (λ n. asks name (nameGives expand n name place rest)) e ∙ name-piece s o
+      big false = ap (λ n. asks name (nameGives expand n name place rest)) e ∙ name-piece h o
 
   -- the piece that a reference's content makes is the piece of what it stands for
-  pub content-piece : contentGives (namesOf table) expand (reading name true no-limit) name place rest
-      ≡ pieceOf table expand (referredIn table name) name place rest
+  pub content-piece : contentGives (namesOf farm house) expand (reading name true no-limit) name place rest
+      ≡ pieceOf farm house expand (referredIn farm house name) name place rest
   unfolding referredIn
-  content-piece = read-piece (reading name true no-limit) (soughtIn table name) (sought-own table name) refl
+  content-piece = read-piece (reading name true no-limit) (soughtInBoth farm house name) (both-own farm house name) refl
+
+-- the bytes of two tables are bytes
+abbrev pub AllBytes : List ℕ → List ℕ → Type 0
+AllBytes farm house = (holder : Holder) (k : ℕ) → getD (heldBy holder farm house) k 0 ≤ 255
+
+pub all-bytes : (farm house : List ℕ) → ((k : ℕ) → getD farm k 0 ≤ 255) → ((k : ℕ) → getD house k 0 ≤ 255) → AllBytes farm house
+all-bytes farm house f h Farm k = f k
+all-bytes farm house f h House k = h k
 
 -- a value's length is one byte of its record
-module _ (table : List ℕ) (bytes : (k : ℕ) → getD table k 0 ≤ 255) where
+module _ (farm house : List ℕ) (bytes : AllBytes farm house) where
   kind-small : (k : Kind) (v : Variable) → v .length ≤ 255 → lengthIn (kinded k v) ≤ 255
   kind-small Text v h = h
   kind-small Integer v h = h
   kind-small Macro v h = h
 
-  variable-small : (s : Sought) → lengthIn (handed table s) ≤ 255
-  variable-small absent = omega arith
-  variable-small (present e) = kind-small (kindOf (e .kind)) (variableAt table e) (bytes (e .place + 4))
+  variable-small : (h : Holding) → lengthIn (handed farm house h) ≤ 255
+  variable-small nowhere = omega arith
+  variable-small (held holder e) =
+      kind-small (kindOf (e .kind)) (variableAt holder (heldBy holder farm house) e) (bytes holder (e .place + 4))
 
-  referred-small : (r : Reading) (s : Sought) → lengthIn (referredAs r (handed table s)) ≤ 255
-  referred-small (Value n) s = omega arith
-  referred-small (Refused number at) s = either (λ r. lengthIn r ≤ 255) (eqb number too-big) (λ _. omega arith) (λ _. variable-small s)
+  referred-small : (r : Reading) (h : Holding) → lengthIn (referredAs r (handed farm house h)) ≤ 255
+  referred-small (Value n) h = omega arith
+  referred-small (Refused number at) h = either (λ r. lengthIn r ≤ 255) (eqb number too-big) (λ _. omega arith) (λ _. variable-small h)
 
-  pub value-small : (name : List ℕ) → lengthIn (referredIn table name) ≤ 255
+  pub value-small : (name : List ℕ) → lengthIn (referredIn farm house name) ≤ 255
   unfolding referredIn
-  value-small name = referred-small (reading name true no-limit) (soughtIn table name)
+  value-small name = referred-small (reading name true no-limit) (soughtInBoth farm house name)

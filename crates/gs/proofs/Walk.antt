@@ -156,32 +156,32 @@ module _ (names : List ℕ → Meaning) (expand : Expand) (text : List ℕ) (fla
         }
 
 -- a reference, over what names mean in a table
-module _ (table : List ℕ) (expand : Expand) (text : List ℕ) (flags left to : ℕ) (out : List ℕ) (mode : Mode) (after : List ℕ) (here far rest : ℕ)
+module _ (farm house : List ℕ) (expand : Expand) (text : List ℕ) (flags left to : ℕ) (out : List ℕ) (mode : Mode) (after : List ℕ) (here far rest : ℕ)
     (start end nxt : ℕ) where
   abbrev name : List ℕ
   name = take (end - start) (drop start text)
 
   abbrev piece : Trace → Trace
-  piece = pieceOf table expand (referredIn table name) name here
+  piece = pieceOf farm house expand (referredIn farm house name) name here
 
   abbrev tail : ℕ → Trace
-  tail less = symbolsFrom (namesOf table) less expand text flags mode nxt
+  tail less = symbolsFrom (namesOf farm house) less expand text flags mode nxt
 
-  module _ (w : Walk (namesOf table) expand text flags left to out mode after here far rest)
+  module _ (w : Walk (namesOf farm house) expand text flags left to out mode after here far rest)
       (s : symbolAt text flags mode here ≡ Reference start end nxt) where
     abbrev N : Type 0
-    N = Next (namesOf table) expand text flags left to out mode after here far rest (Reference start end nxt)
+    N = Next (namesOf farm house) expand text flags left to out mode after here far rest (Reference start end nxt)
 
     n : N
-    n = next (namesOf table) expand text flags left to out mode after here far rest (Reference start end nxt) w s
+    n = next (namesOf farm house) expand text flags left to out mode after here far rest (Reference start end nxt) w s
 
-    goes : symbolGives (namesOf table) expand text here (Reference start end nxt) (symbolsFrom (namesOf table) (n .less) expand text flags mode)
+    goes : symbolGives (namesOf farm house) expand text here (Reference start end nxt) (symbolsFrom (namesOf farm house) (n .less) expand text flags mode)
         ≡ piece (tail (n .less))
     unfolding symbolGives
-    goes = content-piece table name expand here (tail (n .less))
+    goes = content-piece farm house name expand here (tail (n .less))
 
     pub at-reference : (far′ rest′ : ℕ) (after′ : List ℕ) → here < nxt → nxt ≤ length text
-        → Through piece rest far far′ rest′ after after′ → Walk (namesOf table) expand text flags left to out mode after′ nxt far′ rest′
+        → Through piece rest far far′ rest′ after after′ → Walk (namesOf farm house) expand text flags left to out mode after′ nxt far′ rest′
     at-reference far′ rest′ after′ forward within t =
         let g = t .given in
         record {
@@ -200,6 +200,6 @@ module _ (table : List ℕ) (expand : Expand) (text : List ℕ) (flags left to :
         }
 
     pub at-refused : (number place : ℕ) (after′ : List ℕ) → length after′ ≡ length after → ((rest′ : Trace) → run (piece rest′) rest ≡ refused number place)
-        → Read (wholeText (namesOf table) expand text flags) (length text) left to out after′ (Expansions.Refused number place)
+        → Read (wholeText (namesOf farm house) expand text flags) (length text) left to out after′ (Expansions.Refused number place)
     at-refused number place after′ long refuses =
         read-refused number place (long ∙ n .laid .long) (n .runs ∙ ap (λ t. run t rest) goes ∙ refuses (tail (n .less)))

@@ -4,19 +4,19 @@ use mathlib.Core.List.{List, [], _∷_, _++_}
 use Prim.Native.Nat.{ℕ}
 use lib.Dec.{eqb}
 use lib.ListN.{length, drop}
-use Rattle.paper.specs.Answers.{Answer, in-text, in-table}
+use Rattle.paper.specs.Answers.{Answer, in-text, countedIn}
 use Rattle.paper.specs.Refusals.{no-room, too-big, bad-code, bad-string, bad-reference, unknown-name, too-deep, allowance-spent, over-length}
 use Rattle.paper.specs.Traces.{Trace, bytes, answer, allowed}
 use Rattle.variables.specs.Tables.{checkNumbers}
 use Rattle.variables.specs.Names.{namesOf}
-use Rattle.variables.specs.Judgements.{Judged, good, long-text, bad-table, judgement}
+use Rattle.variables.specs.Judgements.{Judgement, good, long-text, bad-table, judgement}
 use Rattle.gs.specs.Readings.{readAt}
 use Rattle.gs.specs.declared.Translated.{Translated}
 use Rattle.gs.specs.declared.Translated.the-variants.{Written, Refused, BadTable}
 
--- 01's reading of a text over a table, at depth 0
-abbrev pub readingOf : List ℕ → List ℕ → ℕ → Trace
-readingOf text table flags = readAt (namesOf table) 0 text flags
+-- 01's reading of a text over two tables, the farm's and the house's, at depth 0
+abbrev pub readingOf : List ℕ → List ℕ → List ℕ → ℕ → Trace
+readingOf text farm house flags = readAt (namesOf farm house) 0 text flags
 
 abbrev pub refusedAt : ℕ → ℕ → ℕ → ℕ → Translated
 refusedAt number place need free = Refused number (record { 0 = place }) need free
@@ -26,31 +26,31 @@ abbrev pub translatedBy : Answer → Translated
 translatedBy a =
     cond (eqb (a .number) 0) (Written (record { 0 = a .place }) (a .need) (a .free)) (refusedAt (a .number) (a .place) (a .need) (a .free))
 
--- what was found of the text and its table decides; then as the reading meets them, 1 last
-abbrev pub translatedOver : Judged → Trace → ℕ → ℕ → Translated
+-- what was found of the text and the tables decides; then as the reading meets them, 1 last
+abbrev pub translatedOver : Judgement → Trace → ℕ → ℕ → Translated
 translatedOver good trace allowance room = translatedBy (answer trace (allowed allowance) room)
 translatedOver long-text trace allowance room = refusedAt over-length 0 0 room
-translatedOver (bad-table number place) trace allowance room = BadTable number (record { 0 = place }) room
+translatedOver (bad-table number holder place) trace allowance room = BadTable number holder (record { 0 = place }) room
 
--- 18 for the text, 18 and 13 for the table, then the reading
-unfoldable pub translated : List ℕ → List ℕ → ℕ → ℕ → ℕ → Translated
-translated text table flags allowance room = translatedOver (judgement text table) (readingOf text table flags) allowance room
+-- 18 for the text, 18 and 13 for the tables, then the reading
+unfoldable pub translated : List ℕ → List ℕ → List ℕ → ℕ → ℕ → ℕ → Translated
+translated text farm house flags allowance room = translatedOver (judgement text farm house) (readingOf text farm house flags) allowance room
 
 abbrev pub leftBy : Translated → List ℕ → List ℕ → List ℕ
 leftBy (Written end need free) given out = given ++ drop need out
 leftBy (Refused number at need free) given out = out
-leftBy (BadTable number at free) given out = out
+leftBy (BadTable number holder at free) given out = out
 
 -- the bytes given where accepted, and what is behind them; a refusal changes nothing
-unfoldable pub outAfter : List ℕ → List ℕ → ℕ → ℕ → List ℕ → List ℕ
-outAfter text table flags allowance out =
-    leftBy (translated text table flags allowance (length out)) (bytes (readingOf text table flags)) out
+unfoldable pub outAfter : List ℕ → List ℕ → List ℕ → ℕ → ℕ → List ℕ → List ℕ
+outAfter text farm house flags allowance out =
+    leftBy (translated text farm house flags allowance (length out)) (bytes (readingOf text farm house flags)) out
 
--- the paper's numbers of an answer; a bad table's place is counted in the table
+-- the paper's numbers of an answer; a bad table's place is counted in that table
 abbrev pub translatedAnswer : Translated → Answer
 translatedAnswer (Written end need free) = record { number = 0; counted = in-text; place = end .0; need = need; free = free }
 translatedAnswer (Refused number at need free) = record { number = number; counted = in-text; place = at .0; need = need; free = free }
-translatedAnswer (BadTable number at free) = record { number = number; counted = in-table; place = at .0; need = 0; free = free }
+translatedAnswer (BadTable number holder at free) = record { number = number; counted = countedIn holder; place = at .0; need = 0; free = free }
 
 -- the numbers that an answer can have: those of a table's check, those that the reading meets, 1 last
 abbrev pub metNumbers : List ℕ

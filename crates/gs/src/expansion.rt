@@ -26,6 +26,7 @@ use symbols::flags::Flags;
 use symbols::forms::Symbol;
 use symbols::symbols::open;
 use symbols::symbols::symbol_at;
+use variables::both;
 
 fn refused_reference(number: u8, place: usize) -> Progress
     ensures { λ r. ⌜ r ≡ Progress.Refused number place ⌝ }
@@ -47,17 +48,18 @@ fn refused_text(number: u8, place: usize) -> Expanded
 
 // What a reference gives: one number, the bytes of a value for one look-up, or a macro's value as a text of its own, one level
 // deeper.
-fn follow(
+fn follow<'a>(
     referred: Referred,
-    table: &[u8],
+    farm: &'a [u8],
+    house: &'a [u8],
     keys: &[u32],
     levels: u8,
     carried: Carried,
     place: usize,
     out: &mut [u8],
 ) -> Progress
-    requires { ⌜ (carried .to + 255 * carried .left + 255 ≤ 2 ^ 40) × (lengthIn referred ≤ 255) × Keys (now table) (now keys) ⌝ }
-    ensures { λ r. ⌜ ((name : List ℕ) → Came (pieceOf (now (table .entry)) (expands (namesOf (now (table .entry))) levels) referred name place) (carried .left) (carried .to) (now (out .entry)) (now (out .exit)) r) ⌝ }
+    requires { ⌜ (carried .to + 255 * carried .left + 255 ≤ 2 ^ 40) × (lengthIn referred ≤ 255) × Keys (now farm) (now house) (now keys) ⌝ }
+    ensures { λ r. ⌜ ((name : List ℕ) → Came (pieceOf (now (farm .entry)) (now (house .entry)) (expands (namesOf (now (farm .entry)) (now (house .entry))) levels) referred name place) (carried .left) (carried .to) (now (out .entry)) (now (out .exit)) r) ⌝ }
 {
     match referred {
         Referred::Number(byte) => {
@@ -69,9 +71,9 @@ fn follow(
         }
         Referred::TooBig => refused_reference(TOO_BIG, place),
         Referred::Unknown => refused_reference(UNKNOWN_NAME, place),
-        Referred::Text(v) => values::give(variables::value_of(table, v), carried, place, out),
+        Referred::Text(v) => values::give(both::value_of(farm, house, v), carried, place, out),
         Referred::Integer(v) => values::give_integer(
-            variables::value_of(table, v),
+            both::value_of(farm, house, v),
             carried,
             place,
             out,
@@ -83,11 +85,12 @@ fn follow(
             if carried.left == 0 {
                 return refused_reference(ALLOWANCE_SPENT, place);
             }
-            let value = variables::value_of(table, v);
+            let value = both::value_of(farm, house, v);
             progress_of(
                 expand(
                     value,
-                    table,
+                    farm,
+                    house,
                     keys,
                     Flags::none(),
                     levels - 1,
@@ -115,17 +118,18 @@ fn progress_of(came: Expanded, place: usize) -> Progress
 
 // One level of a text, from its first symbol to its end. Bytes are written only where they fit the part that is lent, so that
 // a part of nothing measures.
-pub(crate) fn expand(
+pub(crate) fn expand<'a>(
     text: &[u8],
-    table: &[u8],
+    farm: &'a [u8],
+    house: &'a [u8],
     keys: &[u32],
     flags: Flags,
     levels: u8,
     carried: Carried,
     out: &mut [u8],
 ) -> Expanded
-    requires { ⌜ (length (now text) ≤ 65535) × (carried .to + length (now text) + 255 * carried .left + 255 ≤ 2 ^ 40) × Keys (now table) (now keys) ⌝ }
-    ensures { λ r. ⌜ Read (wholeText (namesOf (now (table .entry))) (expands (namesOf (now (table .entry))) levels) (now (text .entry)) (flags .0)) (length (now (text .entry))) (carried .left) (carried .to) (now (out .entry)) (now (out .exit)) r ⌝ }
+    requires { ⌜ (length (now text) ≤ 65535) × (carried .to + length (now text) + 255 * carried .left + 255 ≤ 2 ^ 40) × Keys (now farm) (now house) (now keys) ⌝ }
+    ensures { λ r. ⌜ Read (wholeText (namesOf (now (farm .entry)) (now (house .entry))) (expands (namesOf (now (farm .entry)) (now (house .entry))) levels) (now (text .entry)) (flags .0)) (length (now (text .entry))) (carried .left) (carried .to) (now (out .entry)) (now (out .exit)) r ⌝ }
 {
     let first = open(text, flags);
     let mode = first.mode;
@@ -155,10 +159,11 @@ pub(crate) fn expand(
                 here = next;
             }
             Symbol::Reference { start, end, next } => {
-                let referred = resolve(&text[start..end], table, keys);
+                let referred = resolve(&text[start..end], farm, house, keys);
                 let came = follow(
                     referred,
-                    table,
+                    farm,
+                    house,
                     keys,
                     levels,
                     Carried {

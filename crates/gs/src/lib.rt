@@ -10,6 +10,7 @@ mod expansion;
 pub mod steps;
 mod values;
 
+use paper::Holder;
 use paper::LONGEST;
 use paper::NO_ROOM;
 use paper::OVER_LENGTH;
@@ -19,7 +20,8 @@ use paper::allowance::cap;
 use steps::Carried;
 use steps::Expanded;
 use symbols::flags::Flags;
-use variables::Checked;
+use variables::both;
+use variables::both::Judged;
 
 // What a translation answers.
 pub enum Translated {
@@ -35,9 +37,10 @@ pub enum Translated {
         need: usize,
         free: usize,
     },
-    // The table is not good.
+    // A table is not good.
     BadTable {
         number: u8,
+        holder: Holder,
         at: RecordPlace,
         free: usize,
     },
@@ -57,22 +60,32 @@ fn refused(number: u8, place: usize, need: usize, free: usize) -> Translated
     }
 }
 
-// A text over a good table. The first pass is lent nothing and measures; only when all of it has room does the second write.
-fn fill(
+// A text over good tables. The first pass is lent nothing and measures; only when all of it has room does the second write.
+fn fill<'a>(
     text: &[u8],
-    table: &[u8],
+    farm: &'a [u8],
+    house: &'a [u8],
     keys: &[u32],
     flags: Flags,
     left: u32,
     out: &mut [u8],
 ) -> Translated
-    requires { ⌜ (length (now text) ≤ 65535) × (left ≤ 1024) × Keys (now table) (now keys) ⌝ }
-    ensures answer { λ r. ⌜ r ≡ translatedBy (answer (readingOf (now (text .entry)) (now (table .entry)) (flags .0)) left (length (now (out .entry)))) ⌝ }
-    ensures buffer { λ r. ⌜ now (out .exit) ≡ leftBy r (bytes (readingOf (now (text .entry)) (now (table .entry)) (flags .0))) (now (out .entry)) ⌝ }
+    requires { ⌜ (length (now text) ≤ 65535) × (left ≤ 1024) × Keys (now farm) (now house) (now keys) ⌝ }
+    ensures answer { λ r. ⌜ r ≡ translatedBy (answer (readingOf (now (text .entry)) (now (farm .entry)) (now (house .entry)) (flags .0)) left (length (now (out .entry)))) ⌝ }
+    ensures buffer { λ r. ⌜ now (out .exit) ≡ leftBy r (bytes (readingOf (now (text .entry)) (now (farm .entry)) (now (house .entry)) (flags .0))) (now (out .entry)) ⌝ }
 {
     let room = out.len();
     let begun = Carried { to: 0, left };
-    let measured = expansion::expand(text, table, keys, flags, LEVELS, begun, &mut out[0..0]);
+    let measured = expansion::expand(
+        text,
+        farm,
+        house,
+        keys,
+        flags,
+        LEVELS,
+        begun,
+        &mut out[0..0],
+    );
     match measured {
         Expanded::Refused { number, place } => refused(number, place, 0, room),
         Expanded::Ended { end, carried } => {
@@ -80,7 +93,7 @@ fn fill(
             if room < need {
                 return refused(NO_ROOM, 0, need, room);
             }
-            expansion::expand(text, table, keys, flags, LEVELS, begun, out);
+            expansion::expand(text, farm, house, keys, flags, LEVELS, begun, out);
             Translated::Written {
                 end: TextPlace(end),
                 need,
@@ -90,30 +103,40 @@ fn fill(
     }
 }
 
-// A text with the references that a table's variables resolve, at the start of `out`: whole, or not at all.
-pub fn translate(
+// A text with the references that the variables of the farm's table and the house's resolve, at the start of `out`: whole, or not at all.
+pub fn translate<'a>(
     text: &[u8],
-    table: &[u8],
+    farm: &'a [u8],
+    house: &'a [u8],
     flags: Flags,
     allowance: u32,
     out: &mut [u8],
 ) -> Translated
-    ensures answer { λ r. ⌜ r ≡ translated (now (text .entry)) (now (table .entry)) (flags .0) allowance (length (now (out .entry))) ⌝ }
-    ensures buffer { λ r. ⌜ now (out .exit) ≡ outAfter (now (text .entry)) (now (table .entry)) (flags .0) allowance (now (out .entry)) ⌝ }
+    ensures answer { λ r. ⌜ r ≡ translated (now (text .entry)) (now (farm .entry)) (now (house .entry)) (flags .0) allowance (length (now (out .entry))) ⌝ }
+    ensures buffer { λ r. ⌜ now (out .exit) ≡ outAfter (now (text .entry)) (now (farm .entry)) (now (house .entry)) (flags .0) allowance (now (out .entry)) ⌝ }
 {
     let room = out.len();
     if LONGEST < text.len() {
         return refused(OVER_LENGTH, 0, 0, room);
     }
-    let keyed = variables::key_table(table);
-    let checked = keyed.checked;
+    let keyed = both::key_tables(farm, house);
+    let judged = keyed.judged;
     let keys: &[u32] = &keyed.keys;
-    match checked {
-        Checked::BadTable { number, at } => Translated::BadTable {
+    match judged {
+        Judged::BadTable { number, holder, at } => Translated::BadTable {
             number,
+            holder,
             at,
             free: room,
         },
-        Checked::Good(count) => fill(text, table, &keys[0..count], flags, cap(allowance), out),
+        Judged::Good(count) => fill(
+            text,
+            farm,
+            house,
+            &keys[0..count],
+            flags,
+            cap(allowance),
+            out,
+        ),
     }
 }

@@ -39,7 +39,15 @@ pub fn number(value: u32, next: usize, account: Account) -> Part
 }
 
 // A name must be known, and an integer variable; then it spends one look-up.
-fn look_up<'a>(name: &[u8], farm: &'a [u8], house: &'a [u8], keys: &[u32], place: usize, next: usize, left: u32) -> Part
+fn look_up<'a>(
+    name: &[u8],
+    farm: &'a [u8],
+    house: &'a [u8],
+    keys: &[u32],
+    place: usize,
+    next: usize,
+    left: u32,
+) -> Part
     ensures { λ r. ⌜ r ≡ foundPart (now (farm .entry)) (now (house .entry)) (matchAs (now (farm .entry)) (now (house .entry)) (soughtBy (now (farm .entry)) (now (house .entry)) (now (keys .entry)) (now (name .entry)))) place next left ⌝ }
 {
     match find(farm, house, keys, name) {
@@ -67,7 +75,8 @@ fn look_up<'a>(name: &[u8], farm: &'a [u8], house: &'a [u8], keys: &[u32], place
 // Behind a refusal no name is looked up any more. Any keys are gone by, as `find` does.
 pub fn named<'a>(
     name: &[u8],
-    farm: &'a [u8], house: &'a [u8],
+    farm: &'a [u8],
+    house: &'a [u8],
     keys: &[u32],
     place: usize,
     next: usize,

@@ -49,7 +49,13 @@ fn as_matched(m: Match) -> Referred
 }
 
 // The name path: a number that is too big is refused, and every other content is a name.
-fn as_name<'a>(number: u8, content: &[u8], farm: &'a [u8], house: &'a [u8], keys: &[u32]) -> Referred
+fn as_name<'a>(
+    number: u8,
+    content: &[u8],
+    farm: &'a [u8],
+    house: &'a [u8],
+    keys: &[u32],
+) -> Referred
     ensures { λ r. ⌜ r ≡ cond (eqb number «too-big») Referred.TooBig (matchedAs (matchAs (now (farm .entry)) (now (house .entry)) (soughtBy (now (farm .entry)) (now (house .entry)) (now (keys .entry)) (now (content .entry))))) ⌝ }
 {
     if number == TOO_BIG {

@@ -1,6 +1,6 @@
 -- Every answer has a number that is listed, a place up to 65,535, up to 256 records of a table, and a kind up to 2.
 use mathlib.Core.Bool.{false}
-use mathlib.Core.List.{List, [], _∷_, List·Memᴰ, List·Memᴰ·head as head, List·Memᴰ·tail as tail}
+use mathlib.Core.List.{List, [], _∷_, List·Memᴰ, Memᴰ·append-left, List·Memᴰ·head as head, List·Memᴰ·tail as tail}
 use mathlib.Core.Logic.{_↔_}
 use mathlib.Core.Path.{_≡_, refl, subst}
 use Prim.Native.Nat.{ℕ, zero, suc, _+_, _≤_, _<_}
@@ -8,7 +8,7 @@ use native.Mathlib.Omega.{arith}
 use borrow.Author.Tests.{leb-false, ltb-true, ltb-false}
 use lib.Dec.{ltb, leb}
 use lib.ListN.{length}
-use Rattle.paper.specs.Refusals.{allowance-spent, bad-table, over-length, longest}
+use Rattle.paper.specs.Refusals.{unknown-name, allowance-spent, bad-table, over-length, longest}
 use Rattle.paper.specs.declared.Holder.{Holder}
 use Rattle.paper.specs.declared.Holder.the-variants.{Farm, House}
 use Rattle.paper.specs.declared.RecordPlace.{RecordPlace}
@@ -19,14 +19,15 @@ use Rattle.records.proofs.KindLaws.{kind-bounded}
 use Rattle.variables.specs.Tables as Tables
 use Rattle.variables.specs.Tables.{most, Sought, absent, present, sound, scanned, scan, checked, recordsOf, soughtIn, checkNumber, checkPlace, checkCount, checkNumbers}
 use Rattle.variables.specs.Holdings.{heldBy, Holding, nowhere, heldIn, orElse}
-use Rattle.variables.specs.Judgements.{badTable}
+use Rattle.variables.specs.Judgements.{badTable, judged}
 use Rattle.variables.specs.Lookups.{foundAs, foundBy, lookedUp, foundNumber, foundPlace, foundKind, lookUpNumbers}
 use Rattle.variables.specs.declared.Checked.{Checked}
 use Rattle.variables.specs.declared.Checked.the-variants.{Good, BadTable}
 use Rattle.variables.specs.declared.both.Found.{Found}
 use Rattle.variables.specs.declared.both.Judged.{Judged}
+use Rattle.variables.specs.declared.both.Judged.the-variants.{Good as AllGood, BadTable as OneBad}
 use Rattle.variables.proofs.Good.{Laid, laid, wholes}
-use Rattle.variables.proofs.Judging.{Case, long-farm, long-house, bad-farm, bad-house, both-good, judged-case}
+use Rattle.variables.proofs.Judging.{Case, long-farm, long-house, bad-farm, bad-house, both-good, judged-case, both-are}
 use Rattle.variables.proofs.Lines.{or-nowhere}
 use Rattle.variables.proofs.Unique.{found}
 
@@ -113,25 +114,49 @@ in-good holder farm house name l second b = go (soughtIn (heldBy holder farm hou
       let s = l .short in
       record { number = omega arith; place = omega arith; kind = kind-bounded (kindOf (e .kind)); listed = head refl }
 
+-- the judgement of any bytes. A refusal has a number that is neither that of No room nor of Allowance spent
+abbrev pub Within : Judged → Type 0
+Within (AllGood count) = count ≤ most + most
+Within (OneBad number holder at) = (number ≤ 255) × (at .0 ≤ longest) × List·Memᴰ number checkNumbers × (allowance-spent < number)
+
+pub judged-within : (farm house : List ℕ) → Within (judged farm house)
+judged-within farm house = go (judged-case farm house)
+  where
+    over : (holder : Holder) → Within (badTable over-length holder 0)
+    over holder = (omega arith, omega arith, tail (head refl), omega arith)
+
+    bad-at : (table : List ℕ) (holder : Holder) (place : ℕ) → checked table ≡ Tables.badTable bad-table place → Within (badTable bad-table holder place)
+    bad-at table holder place e =
+        let within = subst (λ r. checkPlace r ≤ longest) e (checked-bounded table .place) in
+        (omega arith, within, tail (tail (head refl)), omega arith)
+
+    counted : (table : List ℕ) {n : ℕ} → checked table ≡ Good n → n ≤ most
+    counted table e = subst (λ r. checkCount r ≤ most) e (checked-bounded table .count)
+
+    go : {r : Judged} → Case farm house r → Within r
+    go (long-farm l) = over Farm
+    go (long-house f l) = over House
+    go (bad-farm f h place b) = bad-at farm Farm place b
+    go (bad-house f h own g place b) = bad-at house House place b
+    go (both-good f h own g count b) = omega (arith, counted farm g, counted house b)
+
+pub bad-number : (farm house : List ℕ) (number : ℕ) (holder : Holder) (place : ℕ) → judged farm house ≡ badTable number holder place → allowance-spent < number
+bad-number farm house number holder place e = subst Within e (judged-within farm house) .3
+
 -- a look-up in any bytes
 pub looked-up-bounded : (farm house name : List ℕ) → FoundBounded (lookedUp farm house name)
 unfolding lookedUp
-looked-up-bounded farm house name = go (judged-case farm house)
+looked-up-bounded farm house name = go (judged farm house) refl
   where
-    refused : (number : ℕ) (holder : Holder) (place : ℕ) → number ≤ 255 → place ≤ longest → List·Memᴰ number lookUpNumbers → FoundBounded (foundBy farm house name (badTable number holder place))
-    refused number holder place n p m = record { number = n; place = p; kind = omega arith; listed = m }
-
     unknown : FoundBounded (foundAs farm house nowhere)
     unknown = record { number = omega arith; place = omega arith; kind = omega arith; listed = tail (tail (tail (head refl))) }
 
-    bounded-place : (table : List ℕ) (place : ℕ) → checked table ≡ Tables.badTable bad-table place → place ≤ longest
-    bounded-place table place e = subst (λ r. checkPlace r ≤ longest) e (checked-bounded table .place)
-
-    go : {r : Judged} → Case farm house r → FoundBounded (foundBy farm house name r)
-    go (long-farm l) = refused over-length Farm 0 (omega arith) (omega arith) (tail (head refl))
-    go (long-house f l) = refused over-length House 0 (omega arith) (omega arith) (tail (head refl))
-    go (bad-farm f h place b) = refused bad-table Farm place (omega arith) (bounded-place farm place b) (tail (tail (head refl)))
-    go (bad-house f h own g place b) = refused bad-table House place (omega arith) (bounded-place house place b) (tail (tail (head refl)))
-    go (both-good f h own g count b) =
-        in-good Farm farm house name (laid farm g) (heldIn House (soughtIn house name))
-        (rw (← or-nowhere (heldIn House (soughtIn house name))) (in-good House farm house name (laid house b) nowhere unknown))
+    go : (r : Judged) → judged farm house ≡ r → FoundBounded (foundBy farm house name r)
+    go (OneBad number holder at) e =
+        let w = subst Within e (judged-within farm house) in
+        record { number = w .0; place = w .1; kind = omega arith; listed = Memᴰ·append-left (unknown-name ∷ []) (w .2) }
+    go (AllGood count) e =
+        let g = both-are farm house e in
+        in-good Farm farm house name (laid farm (g .farm-good)) (heldIn House (soughtIn house name))
+        (subst (λ h. FoundBounded (foundAs farm house h)) (or-nowhere (heldIn House (soughtIn house name)))
+        (in-good House farm house name (laid house (g .house-good)) nowhere unknown))

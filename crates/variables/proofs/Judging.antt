@@ -10,7 +10,7 @@ use borrow.Author.Tests.{lt-ltb, le-ltb}
 use lib.Dec.{leb}
 use lib.ListN.{length}
 use Rattle.paper.specs.Refusals as Refusals
-use Rattle.paper.specs.Refusals.{allowance-spent, over-length, longest}
+use Rattle.paper.specs.Refusals.{over-length, longest}
 use Rattle.paper.specs.declared.Holder.{Holder}
 use Rattle.paper.specs.declared.Holder.the-variants.{Farm, House}
 use Rattle.paper.proofs.Choice.{clash, either}
@@ -142,17 +142,6 @@ module _ (text farm house : List ℕ) where
           let same-holder : h ≡ holder = cc in
           let same-place : at .0 ≡ place = cc in
           rw (same-number, same-holder) (ap (badTable number holder) same-place)
-
--- a refusal's number is neither that of No room nor of Allowance spent
-pub bad-number : (farm house : List ℕ) (number : ℕ) (holder : Holder) (place : ℕ) → judged farm house ≡ badTable number holder place → allowance-spent < number
-bad-number farm house number holder place e = go (judged-case farm house) e
-  where
-    go : {r : Judged} → Case farm house r → r ≡ badTable number holder place → allowance-spent < number
-    go (long-farm l) q = let n : over-length ≡ number = cc in omega arith
-    go (long-house f l) q = let n : over-length ≡ number = cc in omega arith
-    go (bad-farm f h p b) q = let n : Refusals.bad-table ≡ number = cc in omega arith
-    go (bad-house f h o g p b) q = let n : Refusals.bad-table ≡ number = cc in omega arith
-    go (both-good f h o g c b) q = clash (cc)
 
 -- tables that are found good are good
 pub record BothGood (farm house : List ℕ) (count : ℕ) : Type 0 where

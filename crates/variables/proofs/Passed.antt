@@ -35,7 +35,7 @@ laid-behind lines more keys keys₁ own l e =
     let back : drop own keys₁ ≡ rest = rw (e, ← l) (drop-append-seam lines rest) in
     let count : length keys₁ - own ≡ length rest = omega (arith, ap length e ∙ length-append lines rest, l) in
     let far : drop (length (lines ++ more)) keys ≡ drop (length more) rest =
-            ap (λ n. drop n keys) (length-append lines more) ∙ sym (drop-drop (length more) (length lines) keys) in
+    ap (λ n. drop n keys) (length-append lines more) ∙ sym (drop-drop (length more) (length lines) keys) in
     rw (front, back, count, take-length rest, drop-length rest, far)
     (ap (_++_ lines) (append-nil (more ++ drop (length more) rest)) ∙ sym (append-assoc lines more (drop (length more) rest)))
 

@@ -17,7 +17,7 @@ use Rattle.records.specs.Kinds.{pattern}
 use Rattle.records.specs.declared.Variable.{Variable}
 use Rattle.records.specs.declared.kinds.Kind.{Kind}
 use Rattle.records.specs.declared.kinds.Kind.the-variants as Kinds
-use Rattle.variables.specs.Tables.{soughtIn}
+use Rattle.variables.specs.Lookups.{partOf}
 use Rattle.variables.specs.inner.Keys.{matchAs}
 use Rattle.variables.specs.declared.Match.{Match}
 use Rattle.variables.specs.declared.Match.the-variants.{Record, Missing}
@@ -55,18 +55,14 @@ pub data Read (trace : Trace) (size left to : ℕ) (out after : List ℕ) : Expa
   read-refused : (number place : ℕ) → length after ≡ length out → run trace left ≡ refused number place
       → Read trace size left to out after (Expansions.Refused number place)
 
--- the part of a table where a variable's value lies
-abbrev pub partOf : List ℕ → Variable → List ℕ
-partOf table v = take (v .length) (drop (v .start) table)
-
 -- the piece of a reading that a reference makes
-unfoldable pub pieceOf : List ℕ → Expand → Referred → List ℕ → ℕ → Trace → Trace
-pieceOf table expand (Number byte) name place rest = gives byte rest
-pieceOf table expand TooBig name place rest = faults Faults.TooBig place
-pieceOf table expand Unknown name place rest = asks name (faults Faults.UnknownName place)
-pieceOf table expand (Text v) name place rest = asks name (spends place (givesAll (partOf table v) rest))
-pieceOf table expand (Integer v) name place rest = asks name (spends place (givesAll (decimalOf (pattern (partOf table v))) rest))
-pieceOf table expand (Macro v) name place rest = asks name (expand name place (partOf table v) rest)
+unfoldable pub pieceOf : List ℕ → List ℕ → Expand → Referred → List ℕ → ℕ → Trace → Trace
+pieceOf farm house expand (Number byte) name place rest = gives byte rest
+pieceOf farm house expand TooBig name place rest = faults Faults.TooBig place
+pieceOf farm house expand Unknown name place rest = asks name (faults Faults.UnknownName place)
+pieceOf farm house expand (Text v) name place rest = asks name (spends place (givesAll (partOf farm house v) rest))
+pieceOf farm house expand (Integer v) name place rest = asks name (spends place (givesAll (decimalOf (pattern (partOf farm house v))) rest))
+pieceOf farm house expand (Macro v) name place rest = asks name (expand name place (partOf farm house v) rest)
 
 -- how long the value of a reference is
 abbrev pub lengthIn : Referred → ℕ

@@ -53,7 +53,7 @@ module _ (c : tie.After-scan) where
       let lines = passedLines Farm farm (scan farm) in
       laid
       ∙ ap (λ ls. laidOver ls keys)
-        (sym (append-nil lines) ∙ ap (λ r. lines ++ behindFarm r (passedLines House house (scan house))) (sym e ∙ c .scan .ensures .0))
+      (sym (append-nil lines) ∙ ap (λ r. lines ++ behindFarm r (passedLines House house (scan house))) (sym e ∙ c .scan .ensures .0))
 
   -- where it found so many records
   module _ {own : ℕ} (e : c .scan .result ≡ Good own) where
