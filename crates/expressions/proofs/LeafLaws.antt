@@ -1,9 +1,8 @@
--- The part that a leaf makes is that of its tree: a number, and a name by the table's own keys.
+-- The part that a leaf makes is that of its tree: a number, and a name by the tables' own keys.
 use mathlib.Core.List.{List}
 use mathlib.Core.Path.{_≡_, refl, ap, sym, _∙_}
 use Prim.Native.Nat.{ℕ, zero, suc, _-_}
 use native.Mathlib.Omega.{arith}
-use lib.ListN.{take, drop}
 use Rattle.paper.specs.Traces.{run, ended}
 use Rattle.paper.proofs.Choice.{other}
 use Rattle.records.specs.Kinds.{kindOf, variableAt, pattern}
@@ -11,11 +10,12 @@ use Rattle.records.specs.declared.Variable.{Variable}
 use Rattle.records.specs.declared.kinds.Kind.{Kind}
 use Rattle.records.specs.declared.kinds.Kind.the-variants.{Text, Integer, Macro}
 use Rattle.records.proofs.Whole.{own-value}
-use Rattle.variables.specs.Tables.{Sought, absent, present, soughtIn}
+use Rattle.variables.specs.Holdings.{heldBy, Holding, nowhere, held, soughtInBoth}
+use Rattle.variables.specs.Lookups.{partOf as valueIn}
 use Rattle.variables.specs.Names.{Meaning, valueAs, meant, inReading, namesOf}
 use Rattle.variables.specs.inner.Keys.{Keys, matchAs}
 use Rattle.variables.proofs.KeysFind.{sought-by-keys}
-use Rattle.variables.proofs.Own.{Own, sought-own}
+use Rattle.variables.proofs.Own.{OwnHeld, both-own}
 use Rattle.parts.specs.declared.Account.{Account}
 use Rattle.parts.specs.declared.Account.the-variants.{Open, Refused as RefusedBefore}
 use Rattle.parts.specs.declared.Part.{Part}
@@ -43,18 +43,19 @@ module _ (place next : ℕ) where
       let fewer : left ≡ suc left - 1 = omega arith in
       sym (other (suc left) 0 _ _ (λ e. omega arith) (ap (λ l. Value (pattern bytes) l next) fewer))
 
-  found-part : (table : List ℕ) (left : ℕ) (s : Sought) → Own table s
-      → foundPart table (matchAs table s) place next left ≡ partFor left (inReading s)
+  found-part : (farm house : List ℕ) (left : ℕ) (h : Holding) → OwnHeld farm house h
+      → foundPart farm house (matchAs farm house h) place next left ≡ partFor left (inReading h)
   unfolding meant
-  found-part table left absent o = refl
-  found-part table left (present entry) o =
-      let v : Variable = variableAt table entry in
-      kind-part left (kindOf (entry .kind)) (take (v .length) (drop (v .start) table))
-      ∙ ap (λ value. partFor left (valueAs (kindOf (entry .kind)) value)) (sym (own-value table entry (o .own entry refl)))
+  found-part farm house left nowhere o = refl
+  found-part farm house left (held holder entry) o =
+      let table = heldBy holder farm house in
+      let v : Variable = variableAt holder table entry in
+      kind-part left (kindOf (entry .kind)) (valueIn farm house v)
+      ∙ ap (λ value. partFor left (valueAs (kindOf (entry .kind)) value)) (sym (own-value holder table entry (o .own holder entry refl)))
 
-  pub named-part : (table keys name : List ℕ) (account : Account) → Keys table keys
-      → namedPart table keys name place next account ≡ partOf (namesOf table) account (tree (variable name place) next)
-  named-part table keys name (RefusedBefore number first) own = refl
-  named-part table keys name (Open left) own =
-      ap (λ s. foundPart table (matchAs table s) place next left) (sought-by-keys table name own)
-      ∙ found-part table left (soughtIn table name) (sought-own table name)
+  pub named-part : (farm house keys name : List ℕ) (account : Account) → Keys farm house keys
+      → namedPart farm house keys name place next account ≡ partOf (namesOf farm house) account (tree (variable name place) next)
+  named-part farm house keys name (RefusedBefore number first) own = refl
+  named-part farm house keys name (Open left) own =
+      ap (λ h. foundPart farm house (matchAs farm house h) place next left) (sought-by-keys farm house name own)
+      ∙ found-part farm house left (soughtInBoth farm house name) (both-own farm house name)

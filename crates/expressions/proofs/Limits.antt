@@ -14,10 +14,10 @@ use Rattle.paper.proofs.Choice.{either}
 use Rattle.paper.proofs.Placed.{Placed, ended-at, faults-at, asks-on, spends-at, run-placed}
 use Rattle.paper.proofs.Listed.{member, Listed, ended-listed, faults-listed, asks-listed, spends-listed, RunListed, run-listed}
 use Rattle.paper.proofs.DemandThree.{refused-number}
-use Rattle.variables.specs.Judgements.{Judged, good, long-text, bad-table, judgement}
+use Rattle.variables.specs.Judgements.{Judgement, good, long-text, bad-table, judgement}
 use Rattle.variables.specs.Names.{Meaning, unknown, string-of, integer-of, macro-of, namesOf}
 use Rattle.variables.proofs.Judging as Judging
-use Rattle.variables.proofs.Bounds.{Bounded as Checks, checked-bounded}
+use Rattle.variables.proofs.Bounds.{Within, judged-within}
 use Rattle.arithmetic.specs.Operators.{loosest, standsAlone, divides}
 use Rattle.tokens.specs.Tokens.{faultOf, tokenAt}
 use Rattle.parts.specs.Links.{Link, binds, none, linkAt, wants}
@@ -183,13 +183,13 @@ module _ (text : List ℕ) where
     evaluation-listed (faulty fault place) (faulty-in m w) = faults-listed m
     evaluation-listed (tree t end) (tree-in i e) = steps-listed t (end-at end) ended-listed
 
-module _ (text table : List ℕ) where
+module _ (text farm house : List ℕ) where
   -- every place of a reading lies in its text, and every number of its faults is a listed one
-  pub reading-placed : Placed (length text) (readingOf text table)
-  reading-placed = evaluation-placed text (namesOf table) (wholeTree text) (whole-in text)
+  pub reading-placed : Placed (length text) (readingOf text farm house)
+  reading-placed = evaluation-placed text (namesOf farm house) (wholeTree text) (whole-in text)
 
-  pub reading-listed : Listed evaluateNumbers (readingOf text table)
-  reading-listed = evaluation-listed text (namesOf table) (wholeTree text) (whole-in text)
+  pub reading-listed : Listed evaluateNumbers (readingOf text farm house)
+  reading-listed = evaluation-listed text (namesOf farm house) (wholeTree text) (whole-in text)
 
 -- every answer's numbers are small enough to pack, and its number is a listed one
 pub record Bounded (r : Evaluated) : Type 0 where
@@ -202,19 +202,19 @@ by-bounded : (r : Run) (value : ℕ) → runPlace r ≤ longest → ((number pla
 by-bounded (finished end left) value p n l = record { number = omega arith; place = p; listed = head refl }
 by-bounded (refused number place) value p n l = record { number = n number place refl; place = p; listed = l }
 
-pub evaluated-bounded : (text table : List ℕ) (allowance : ℕ) → Bounded (evaluated text table allowance)
+pub evaluated-bounded : (text farm house : List ℕ) (allowance : ℕ) → Bounded (evaluated text farm house allowance)
 unfolding evaluated
-evaluated-bounded text table allowance = over (judgement text table) refl
+evaluated-bounded text farm house allowance = over (judgement text farm house) refl
   where
-    over : (j : Judged) → judgement text table ≡ j → Bounded (evaluatedOver j (run (readingOf text table) (allowed allowance)) (valueIn text table))
+    over : (j : Judgement) → judgement text farm house ≡ j → Bounded (evaluatedOver j (run (readingOf text farm house) (allowed allowance)) (valueIn text farm house))
     over good e =
-        let t = readingOf text table in
-        let short = Judging.read text table e .0 in
-        let within = run-placed (reading-placed text table) (allowed allowance) in
-        by-bounded (run t (allowed allowance)) (valueIn text table) (omega arith)
+        let t = readingOf text farm house in
+        let short = Judging.read text farm house e .0 in
+        let within = run-placed (reading-placed text farm house) (allowed allowance) in
+        by-bounded (run t (allowed allowance)) (valueIn text farm house) (omega arith)
         (λ number place q. refused-number t (allowed allowance) number place q .1)
-        (run-listed evaluateNumbers (member allowance-spent evaluateNumbers refl) (reading-listed text table) (allowed allowance))
+        (run-listed evaluateNumbers (member allowance-spent evaluateNumbers refl) (reading-listed text farm house) (allowed allowance))
     over long-text e = record { number = omega arith; place = omega arith; listed = member over-length evaluateNumbers refl }
-    over (bad-table number place) e =
-        let b = subst Checks (Judging.refused text table number place e .1) (checked-bounded table) in
-        record { number = b .number; place = b .place; listed = Memᴰ·append-left metNumbers (b .listed) }
+    over (bad-table number holder place) e =
+        let w = subst Within (Judging.refused text farm house number holder place e .1) (judged-within farm house) in
+        record { number = w .0; place = w .1; listed = Memᴰ·append-left metNumbers (w .2) }

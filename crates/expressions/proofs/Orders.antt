@@ -1,18 +1,19 @@
--- The order of an evaluation's refusals: 18 for the text, then what the table's check says, then the run of the reading; and what an
+-- The order of an evaluation's refusals: 18 for the text, then the judgement of the tables, then the run of the reading; and what an
 -- answer's number tells.
 use mathlib.Core.List.{List, List·Memᴰ}
 use mathlib.Core.Path.{_≡_, refl, ap, sym, subst, _∙_}
 use Prim.Native.Nat.{ℕ, _≤_, _<_}
 use native.Mathlib.Omega.{arith}
 use lib.ListN.{length}
-use Rattle.paper.specs.Answers.{in-text, in-table}
+use Rattle.paper.specs.Answers.{in-text, countedIn}
 use Rattle.paper.specs.Refusals.{over-length, longest}
 use Rattle.paper.specs.Traces.{Run, finished, refused, run, allowed}
 use Rattle.paper.proofs.DemandThree.{refused-number}
-use Rattle.variables.specs.Judgements.{Judged, good, long-text, bad-table, judgedBy, judgement}
-use Rattle.variables.specs.Tables.{checked}
-use Rattle.variables.specs.declared.Checked.{Checked}
+use Rattle.paper.specs.declared.Holder.{Holder}
+use Rattle.variables.specs.Judgements.{judged as judgedTables, Judgement, good, long-text, bad-table, judgedBy, judgement}
+use Rattle.variables.specs.declared.both.Judged.{Judged}
 use Rattle.variables.proofs.Judging as Judging
+use Rattle.variables.proofs.Bounds.{bad-number}
 use Rattle.arithmetic.specs.Values.{signed}
 use Rattle.expressions.specs.Answers.{readingOf, valueIn, refusedAt, evaluatedBy, evaluatedOver, evaluated, evaluatedNumber, evaluatedCounted, evaluatedPlace, evaluatedPattern, evaluatedValue, evaluateNumbers}
 use Rattle.expressions.specs.declared.Evaluated.{Evaluated}
@@ -25,60 +26,60 @@ pub record RefusedWith (r : Evaluated) (n c p : ℕ) : Type 0 where
   pub place : evaluatedPlace r ≡ p
 
 -- an answer that is accepted: the run came to its end, which is the answer's place, and the value is that of the reading
-pub record Accepted (text table : List ℕ) (allowance : ℕ) (r : Evaluated) : Type 0 where
-  pub judged : judgement text table ≡ good
+pub record Accepted (text farm house : List ℕ) (allowance : ℕ) (r : Evaluated) : Type 0 where
+  pub judged : judgement text farm house ≡ good
   pub end : ℕ
   pub left : ℕ
-  pub ran : run (readingOf text table) (allowed allowance) ≡ finished end left
+  pub ran : run (readingOf text farm house) (allowed allowance) ≡ finished end left
   pub counted : evaluatedCounted r ≡ in-text
   pub place : evaluatedPlace r ≡ end
-  pub pattern : evaluatedPattern r ≡ valueIn text table
-  pub value : evaluatedValue r ≡ signed (valueIn text table)
+  pub pattern : evaluatedPattern r ≡ valueIn text farm house
+  pub value : evaluatedValue r ≡ signed (valueIn text farm house)
 
-module _ (text table : List ℕ) (allowance : ℕ) where
+module _ (text farm house : List ℕ) (allowance : ℕ) where
   abbrev ran-so : Run
-  ran-so = run (readingOf text table) (allowed allowance)
+  ran-so = run (readingOf text farm house) (allowed allowance)
 
   -- what is found before the text is read decides
-  pub by-judgement : (j : Judged) → judgement text table ≡ j → evaluated text table allowance ≡ evaluatedOver j ran-so (valueIn text table)
+  pub by-judgement : (j : Judgement) → judgement text farm house ≡ j → evaluated text farm house allowance ≡ evaluatedOver j ran-so (valueIn text farm house)
   unfolding evaluated
-  by-judgement j e = ap (λ k. evaluatedOver k ran-so (valueIn text table)) e
+  by-judgement j e = ap (λ k. evaluatedOver k ran-so (valueIn text farm house)) e
 
-  pub when-good : judgement text table ≡ good
-      → evaluated text table allowance ≡ evaluatedBy (run (readingOf text table) (allowed allowance)) (valueIn text table)
+  pub when-good : judgement text farm house ≡ good
+      → evaluated text farm house allowance ≡ evaluatedBy (run (readingOf text farm house) (allowed allowance)) (valueIn text farm house)
   when-good = by-judgement good
 
-  pub when-long-text : judgement text table ≡ long-text → RefusedWith (evaluated text table allowance) over-length in-text 0
+  pub when-long-text : judgement text farm house ≡ long-text → RefusedWith (evaluated text farm house allowance) over-length in-text 0
   when-long-text e =
       subst (λ r. RefusedWith r over-length in-text 0) (sym (by-judgement long-text e)) (record { number = refl; counted = refl; place = refl })
 
-  pub when-bad-table : (number place : ℕ) → judgement text table ≡ bad-table number place
-      → RefusedWith (evaluated text table allowance) number in-table place
-  when-bad-table number place e =
-      subst (λ r. RefusedWith r number in-table place) (sym (by-judgement (bad-table number place) e))
+  pub when-bad-table : (number : ℕ) (holder : Holder) (place : ℕ) → judgement text farm house ≡ bad-table number holder place
+      → RefusedWith (evaluated text farm house allowance) number (countedIn holder) place
+  when-bad-table number holder place e =
+      subst (λ r. RefusedWith r number (countedIn holder) place) (sym (by-judgement (bad-table number holder place) e))
       (record { number = refl; counted = refl; place = refl })
 
-  -- the same by the text's length and the table's check, as the code finds them
-  pub too-long : longest < length text → refusedAt over-length 0 ≡ evaluated text table allowance
-  too-long h = sym (by-judgement long-text (Judging.over text table h))
+  -- the same by the text's length and the judgement of the tables, as the code finds them
+  pub too-long : longest < length text → refusedAt over-length 0 ≡ evaluated text farm house allowance
+  too-long h = sym (by-judgement long-text (Judging.over text farm house h))
 
-  pub over : (d : Checked) → length text ≤ longest → checked table ≡ d
-      → evaluatedOver (judgedBy d) ran-so (valueIn text table) ≡ evaluated text table allowance
-  over d h e = sym (by-judgement (judgedBy d) (Judging.within text table h ∙ ap judgedBy e))
+  pub over : (d : Judged) → length text ≤ longest → judgedTables farm house ≡ d
+      → evaluatedOver (judgedBy d) ran-so (valueIn text farm house) ≡ evaluated text farm house allowance
+  over d h e = sym (by-judgement (judgedBy d) (Judging.within text farm house h ∙ ap judgedBy e))
 
   -- every number is a listed one
-  pub evaluated-listed : List·Memᴰ (evaluatedNumber (evaluated text table allowance)) evaluateNumbers
-  evaluated-listed = evaluated-bounded text table allowance .listed
+  pub evaluated-listed : List·Memᴰ (evaluatedNumber (evaluated text farm house allowance)) evaluateNumbers
+  evaluated-listed = evaluated-bounded text farm house allowance .listed
 
 -- an answer of number 0 has the value of the reading, and the place where its run came to the end
-pub accepted : (text table : List ℕ) (allowance : ℕ) → evaluatedNumber (evaluated text table allowance) ≡ 0
-    → Accepted text table allowance (evaluated text table allowance)
-accepted text table allowance e = by-judged (judgement text table) refl
+pub accepted : (text farm house : List ℕ) (allowance : ℕ) → evaluatedNumber (evaluated text farm house allowance) ≡ 0
+    → Accepted text farm house allowance (evaluated text farm house allowance)
+accepted text farm house allowance e = by-judged (judgement text farm house) refl
   where
-    by-run : judgement text table ≡ good → (r : Run) → run (readingOf text table) (allowed allowance) ≡ r
-        → Accepted text table allowance (evaluated text table allowance)
+    by-run : judgement text farm house ≡ good → (r : Run) → run (readingOf text farm house) (allowed allowance) ≡ r
+        → Accepted text farm house allowance (evaluated text farm house allowance)
     by-run j (finished end left) q =
-        let is = when-good text table allowance j ∙ ap (λ r. evaluatedBy r (valueIn text table)) q in
+        let is = when-good text farm house allowance j ∙ ap (λ r. evaluatedBy r (valueIn text farm house)) q in
         record {
           judged = j;
           end = end;
@@ -90,11 +91,12 @@ accepted text table allowance e = by-judged (judgement text table) refl
           value = ap evaluatedValue is;
         }
     by-run j (refused number place) q =
-        let is = when-good text table allowance j ∙ ap (λ r. evaluatedBy r (valueIn text table)) q in
-        absurd (omega (arith, refused-number (readingOf text table) (allowed allowance) number place q, sym (ap evaluatedNumber is) ∙ e))
+        let is = when-good text farm house allowance j ∙ ap (λ r. evaluatedBy r (valueIn text farm house)) q in
+        absurd (omega (arith, refused-number (readingOf text farm house) (allowed allowance) number place q, sym (ap evaluatedNumber is) ∙ e))
 
-    by-judged : (j : Judged) → judgement text table ≡ j → Accepted text table allowance (evaluated text table allowance)
-    by-judged good j = by-run j (run (readingOf text table) (allowed allowance)) refl
-    by-judged long-text j = absurd (omega (arith, when-long-text text table allowance j .number, e))
-    by-judged (bad-table number place) j =
-        absurd (omega (arith, when-bad-table text table allowance number place j .number, e, Judging.bad-number text table number place j))
+    by-judged : (j : Judgement) → judgement text farm house ≡ j → Accepted text farm house allowance (evaluated text farm house allowance)
+    by-judged good j = by-run j (run (readingOf text farm house) (allowed allowance)) refl
+    by-judged long-text j = absurd (omega (arith, when-long-text text farm house allowance j .number, e))
+    by-judged (bad-table number holder place) j =
+        let refused = Judging.refused text farm house number holder place j .1 in
+        absurd (omega (arith, when-bad-table text farm house allowance number holder place j .number, e, bad-number farm house number holder place refused))

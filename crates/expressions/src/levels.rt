@@ -1,5 +1,5 @@
 // One function for each level of precedence. Each reads the operands one level tighter, with its own operators between them from the
-// left; the tightest is the operand, which calls the loosest level back for a bracket. The table's keys go along, for the
+// left; the tightest is the operand, which calls the loosest level back for a bracket. The keys of the tables go along, for the
 // look-ups of names.
 ghost use mathlib.Core.Path.{_≡_};
 ghost use Rattle.variables.specs.inner.Keys.{Keys};
@@ -15,9 +15,17 @@ use parts::behind::operator_behind;
 use tokens::Token;
 
 // A number, a name, a bracket, or an operator before an operand. `levels` more unary operators and brackets may stand over it.
-fn operand(text: &[u8], table: &[u8], keys: &[u32], levels: u8, at: usize, account: Account) -> Part
-    requires { ⌜ Keys (now table) (now keys) ⌝ }
-    ensures { λ r. ⌜ r ≡ partOf (namesOf (now (table .entry))) account (operandAt (now (text .entry)) levels at) ⌝ }
+fn operand<'a>(
+    text: &[u8],
+    farm: &'a [u8],
+    house: &'a [u8],
+    keys: &[u32],
+    levels: u8,
+    at: usize,
+    account: Account,
+) -> Part
+    requires { ⌜ Keys (now farm) (now house) (now keys) ⌝ }
+    ensures { λ r. ⌜ r ≡ partOf (namesOf (now (farm .entry)) (now (house .entry))) account (operandAt (now (text .entry)) levels at) ⌝ }
 {
     let first = tokens::token_at(text, at);
     let token = first.token;
@@ -29,7 +37,7 @@ fn operand(text: &[u8], table: &[u8], keys: &[u32], levels: u8, at: usize, accou
             fault,
             place: digit,
         },
-        Token::Name => leaves::named(&text[place..next], table, keys, place, next, account),
+        Token::Name => leaves::named(&text[place..next], farm, house, keys, place, next, account),
         Token::Operator(operator) => {
             if !operator.stands_alone() {
                 return parts::bad(place);
@@ -39,7 +47,7 @@ fn operand(text: &[u8], table: &[u8], keys: &[u32], levels: u8, at: usize, accou
             }
             parts::covered(
                 operator,
-                operand(text, table, keys, levels - 1, next, account),
+                operand(text, farm, house, keys, levels - 1, next, account),
             )
         }
         Token::Open => {
@@ -48,7 +56,7 @@ fn operand(text: &[u8], table: &[u8], keys: &[u32], levels: u8, at: usize, accou
             }
             behind::up_to(
                 text,
-                disjunction(text, table, keys, levels - 1, next, account),
+                disjunction(text, farm, house, keys, levels - 1, next, account),
                 Wanted::ClosingBracket,
             )
         }
@@ -59,11 +67,19 @@ fn operand(text: &[u8], table: &[u8], keys: &[u32], levels: u8, at: usize, accou
 }
 
 // * / MOD
-fn term(text: &[u8], table: &[u8], keys: &[u32], levels: u8, at: usize, account: Account) -> Part
-    requires { ⌜ Keys (now table) (now keys) ⌝ }
-    ensures { λ r. ⌜ r ≡ partOf (namesOf (now (table .entry))) account (levelAt (now (text .entry)) 1 (operandAt (now (text .entry)) levels) at) ⌝ }
+fn term<'a>(
+    text: &[u8],
+    farm: &'a [u8],
+    house: &'a [u8],
+    keys: &[u32],
+    levels: u8,
+    at: usize,
+    account: Account,
+) -> Part
+    requires { ⌜ Keys (now farm) (now house) (now keys) ⌝ }
+    ensures { λ r. ⌜ r ≡ partOf (namesOf (now (farm .entry)) (now (house .entry))) account (levelAt (now (text .entry)) 1 (operandAt (now (text .entry)) levels) at) ⌝ }
 {
-    let mut lhs = operand(text, table, keys, levels, at, account);
+    let mut lhs = operand(text, farm, house, keys, levels, at, account);
     loop {
         match operator_behind(text, 1, lhs) {
             Behind::Other => return lhs,
@@ -72,7 +88,15 @@ fn term(text: &[u8], table: &[u8], keys: &[u32], levels: u8, at: usize, account:
                 place,
                 next,
             } => {
-                let rhs = operand(text, table, keys, levels, next, parts::account_of(lhs));
+                let rhs = operand(
+                    text,
+                    farm,
+                    house,
+                    keys,
+                    levels,
+                    next,
+                    parts::account_of(lhs),
+                );
                 lhs = parts::joined(operator, place, lhs, rhs);
             }
         }
@@ -80,11 +104,19 @@ fn term(text: &[u8], table: &[u8], keys: &[u32], levels: u8, at: usize, account:
 }
 
 // + -
-fn sum(text: &[u8], table: &[u8], keys: &[u32], levels: u8, at: usize, account: Account) -> Part
-    requires { ⌜ Keys (now table) (now keys) ⌝ }
-    ensures { λ r. ⌜ r ≡ partOf (namesOf (now (table .entry))) account (levelAt (now (text .entry)) 2 (operandAt (now (text .entry)) levels) at) ⌝ }
+fn sum<'a>(
+    text: &[u8],
+    farm: &'a [u8],
+    house: &'a [u8],
+    keys: &[u32],
+    levels: u8,
+    at: usize,
+    account: Account,
+) -> Part
+    requires { ⌜ Keys (now farm) (now house) (now keys) ⌝ }
+    ensures { λ r. ⌜ r ≡ partOf (namesOf (now (farm .entry)) (now (house .entry))) account (levelAt (now (text .entry)) 2 (operandAt (now (text .entry)) levels) at) ⌝ }
 {
-    let mut lhs = term(text, table, keys, levels, at, account);
+    let mut lhs = term(text, farm, house, keys, levels, at, account);
     loop {
         match operator_behind(text, 2, lhs) {
             Behind::Other => return lhs,
@@ -93,7 +125,15 @@ fn sum(text: &[u8], table: &[u8], keys: &[u32], levels: u8, at: usize, account: 
                 place,
                 next,
             } => {
-                let rhs = term(text, table, keys, levels, next, parts::account_of(lhs));
+                let rhs = term(
+                    text,
+                    farm,
+                    house,
+                    keys,
+                    levels,
+                    next,
+                    parts::account_of(lhs),
+                );
                 lhs = parts::joined(operator, place, lhs, rhs);
             }
         }
@@ -101,18 +141,19 @@ fn sum(text: &[u8], table: &[u8], keys: &[u32], levels: u8, at: usize, account: 
 }
 
 // = <> < > <= >= << >> >>>
-fn relation(
+fn relation<'a>(
     text: &[u8],
-    table: &[u8],
+    farm: &'a [u8],
+    house: &'a [u8],
     keys: &[u32],
     levels: u8,
     at: usize,
     account: Account,
 ) -> Part
-    requires { ⌜ Keys (now table) (now keys) ⌝ }
-    ensures { λ r. ⌜ r ≡ partOf (namesOf (now (table .entry))) account (levelAt (now (text .entry)) 3 (operandAt (now (text .entry)) levels) at) ⌝ }
+    requires { ⌜ Keys (now farm) (now house) (now keys) ⌝ }
+    ensures { λ r. ⌜ r ≡ partOf (namesOf (now (farm .entry)) (now (house .entry))) account (levelAt (now (text .entry)) 3 (operandAt (now (text .entry)) levels) at) ⌝ }
 {
-    let mut lhs = sum(text, table, keys, levels, at, account);
+    let mut lhs = sum(text, farm, house, keys, levels, at, account);
     loop {
         match operator_behind(text, 3, lhs) {
             Behind::Other => return lhs,
@@ -121,7 +162,15 @@ fn relation(
                 place,
                 next,
             } => {
-                let rhs = sum(text, table, keys, levels, next, parts::account_of(lhs));
+                let rhs = sum(
+                    text,
+                    farm,
+                    house,
+                    keys,
+                    levels,
+                    next,
+                    parts::account_of(lhs),
+                );
                 lhs = parts::joined(operator, place, lhs, rhs);
             }
         }
@@ -129,18 +178,19 @@ fn relation(
 }
 
 // AND
-fn conjunction(
+fn conjunction<'a>(
     text: &[u8],
-    table: &[u8],
+    farm: &'a [u8],
+    house: &'a [u8],
     keys: &[u32],
     levels: u8,
     at: usize,
     account: Account,
 ) -> Part
-    requires { ⌜ Keys (now table) (now keys) ⌝ }
-    ensures { λ r. ⌜ r ≡ partOf (namesOf (now (table .entry))) account (levelAt (now (text .entry)) 4 (operandAt (now (text .entry)) levels) at) ⌝ }
+    requires { ⌜ Keys (now farm) (now house) (now keys) ⌝ }
+    ensures { λ r. ⌜ r ≡ partOf (namesOf (now (farm .entry)) (now (house .entry))) account (levelAt (now (text .entry)) 4 (operandAt (now (text .entry)) levels) at) ⌝ }
 {
-    let mut lhs = relation(text, table, keys, levels, at, account);
+    let mut lhs = relation(text, farm, house, keys, levels, at, account);
     loop {
         match operator_behind(text, 4, lhs) {
             Behind::Other => return lhs,
@@ -149,7 +199,15 @@ fn conjunction(
                 place,
                 next,
             } => {
-                let rhs = relation(text, table, keys, levels, next, parts::account_of(lhs));
+                let rhs = relation(
+                    text,
+                    farm,
+                    house,
+                    keys,
+                    levels,
+                    next,
+                    parts::account_of(lhs),
+                );
                 lhs = parts::joined(operator, place, lhs, rhs);
             }
         }
@@ -157,18 +215,19 @@ fn conjunction(
 }
 
 // OR EOR
-pub(crate) fn disjunction(
+pub(crate) fn disjunction<'a>(
     text: &[u8],
-    table: &[u8],
+    farm: &'a [u8],
+    house: &'a [u8],
     keys: &[u32],
     levels: u8,
     at: usize,
     account: Account,
 ) -> Part
-    requires { ⌜ Keys (now table) (now keys) ⌝ }
-    ensures { λ r. ⌜ r ≡ partOf (namesOf (now (table .entry))) account (levelAt (now (text .entry)) 5 (operandAt (now (text .entry)) levels) at) ⌝ }
+    requires { ⌜ Keys (now farm) (now house) (now keys) ⌝ }
+    ensures { λ r. ⌜ r ≡ partOf (namesOf (now (farm .entry)) (now (house .entry))) account (levelAt (now (text .entry)) 5 (operandAt (now (text .entry)) levels) at) ⌝ }
 {
-    let mut lhs = conjunction(text, table, keys, levels, at, account);
+    let mut lhs = conjunction(text, farm, house, keys, levels, at, account);
     loop {
         match operator_behind(text, 5, lhs) {
             Behind::Other => return lhs,
@@ -177,7 +236,15 @@ pub(crate) fn disjunction(
                 place,
                 next,
             } => {
-                let rhs = conjunction(text, table, keys, levels, next, parts::account_of(lhs));
+                let rhs = conjunction(
+                    text,
+                    farm,
+                    house,
+                    keys,
+                    levels,
+                    next,
+                    parts::account_of(lhs),
+                );
                 lhs = parts::joined(operator, place, lhs, rhs);
             }
         }

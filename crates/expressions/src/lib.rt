@@ -7,6 +7,7 @@ ghost use Rattle.expressions.specs.inner.Steps.{answerOf};
 
 mod levels;
 
+use paper::Holder;
 use paper::LONGEST;
 use paper::OVER_LENGTH;
 use paper::RecordPlace;
@@ -15,15 +16,26 @@ use parts::Account;
 use parts::Part;
 use parts::behind;
 use parts::behind::Wanted;
-use variables::Checked;
+use variables::both;
+use variables::both::Judged;
 
 // What an evaluation answers.
 pub enum Evaluated {
     // The value as a signed 32-bit number's pattern, and the place of the text's end.
-    Value { pattern: u32, end: TextPlace },
-    Refused { number: u8, at: TextPlace },
-    // The table is not good.
-    BadTable { number: u8, at: RecordPlace },
+    Value {
+        pattern: u32,
+        end: TextPlace,
+    },
+    Refused {
+        number: u8,
+        at: TextPlace,
+    },
+    // A table is not good.
+    BadTable {
+        number: u8,
+        holder: Holder,
+        at: RecordPlace,
+    },
 }
 
 // How many unary operators and brackets may stand over one operand.
@@ -59,30 +71,36 @@ fn answer_of(part: Part) -> Evaluated
     }
 }
 
-// A text over a good table, with the table's keys.
-fn evaluate_over(text: &[u8], table: &[u8], keys: &[u32], left: u32) -> Evaluated
-    requires { ⌜ Keys (now table) (now keys) ⌝ }
-    ensures { λ r. ⌜ r ≡ evaluatedBy (run (readingOf (now (text .entry)) (now (table .entry))) left) (valueIn (now (text .entry)) (now (table .entry))) ⌝ }
+// A text over good tables, with their keys.
+fn evaluate_over<'a>(
+    text: &[u8],
+    farm: &'a [u8],
+    house: &'a [u8],
+    keys: &[u32],
+    left: u32,
+) -> Evaluated
+    requires { ⌜ Keys (now farm) (now house) (now keys) ⌝ }
+    ensures { λ r. ⌜ r ≡ evaluatedBy (run (readingOf (now (text .entry)) (now (farm .entry)) (now (house .entry))) left) (valueIn (now (text .entry)) (now (farm .entry)) (now (house .entry))) ⌝ }
 {
-    let part = levels::disjunction(text, table, keys, LEVELS, 0, Account::Open(left));
+    let part = levels::disjunction(text, farm, house, keys, LEVELS, 0, Account::Open(left));
     answer_of(behind::up_to(text, part, Wanted::TextEnd))
 }
 
-// The value of an expression, its names those of a table's integer variables.
-pub fn evaluate(text: &[u8], table: &[u8], allowance: u32) -> Evaluated
-    ensures { λ r. ⌜ r ≡ evaluated (now (text .entry)) (now (table .entry)) allowance ⌝ }
+// The value of an expression, its names those of integer variables of the farm's table and the house's.
+pub fn evaluate<'a>(text: &[u8], farm: &'a [u8], house: &'a [u8], allowance: u32) -> Evaluated
+    ensures { λ r. ⌜ r ≡ evaluated (now (text .entry)) (now (farm .entry)) (now (house .entry)) allowance ⌝ }
 {
     if LONGEST < text.len() {
         return refused(OVER_LENGTH, 0);
     }
-    let keyed = variables::key_table(table);
-    let checked = keyed.checked;
+    let keyed = both::key_tables(farm, house);
+    let judged = keyed.judged;
     let keys: &[u32] = &keyed.keys;
-    match checked {
-        Checked::BadTable { number, at } => Evaluated::BadTable { number, at },
-        Checked::Good(count) => {
+    match judged {
+        Judged::BadTable { number, holder, at } => Evaluated::BadTable { number, holder, at },
+        Judged::Good(count) => {
             let left = paper::allowance::cap(allowance);
-            evaluate_over(text, table, &keys[0..count], left)
+            evaluate_over(text, farm, house, &keys[0..count], left)
         }
     }
 }

@@ -1,4 +1,4 @@
--- `evaluate` meets its contract: 18 for the text, 18 and 13 for the table, then the reading.
+-- `evaluate` meets its contract: 18 for the text, 18 and 13 for the tables, then the reading.
 use mathlib.Core.Path.{_≡_, ap, sym, _∙_}
 use mathlib.Core.List.{List}
 use Prim.Native.Nat.{ℕ, _≤_}
@@ -6,7 +6,7 @@ use native.Mathlib.Omega.{arith}
 use lib.ListN.{length}
 use Rattle.paper.specs.Refusals.{longest}
 use Rattle.paper.specs.Traces.{run, allowed}
-use Rattle.variables.specs.declared.Checked.{Checked}
+use Rattle.variables.specs.declared.both.Judged.{Judged}
 use Rattle.variables.specs.Judgements.{judgedBy}
 use Rattle.variables.proofs.KeysFind.{lines-inside, all-lines}
 use Rattle.expressions.specs.Answers.{readingOf, valueIn, evaluatedBy, evaluatedOver, evaluated}
@@ -16,49 +16,49 @@ use borrow.Author.Needs.{needs}
 use Rattle.expressions.proofs.evaluate.Statement.{statement}
 use Rattle.expressions.proofs.evaluate.Tie as tie
 
--- the reading of a text over a good table, its allowance capped
-over-good : (text table : List ℕ) (allowance left : ℕ) (r : Evaluated) → r ≡ evaluatedBy (run (readingOf text table) left) (valueIn text table)
-    → left ≡ allowed allowance → evaluatedBy (run (readingOf text table) (allowed allowance)) (valueIn text table) ≡ evaluated text table allowance
-    → r ≡ evaluated text table allowance
-over-good text table allowance left r e capped decides = e ∙ ap (λ n. evaluatedBy (run (readingOf text table) n) (valueIn text table)) capped ∙ decides
+-- the reading of a text over good tables, its allowance capped
+over-good : (text farm house : List ℕ) (allowance left : ℕ) (r : Evaluated) → r ≡ evaluatedBy (run (readingOf text farm house) left) (valueIn text farm house)
+    → left ≡ allowed allowance → evaluatedBy (run (readingOf text farm house) (allowed allowance)) (valueIn text farm house) ≡ evaluated text farm house allowance
+    → r ≡ evaluated text farm house allowance
+over-good text farm house allowance left r e capped decides = e ∙ ap (λ n. evaluatedBy (run (readingOf text farm house) n) (valueIn text farm house)) capped ∙ decides
 
--- where the table is checked
-module _ (c : tie.After-key-table) where
+-- where the tables are judged
+module _ (c : tie.After-key-tables) where
   abbrev start : tie.Start
-  start = c .before .before .before .before
+  start = c .before .before .before .before .before
 
-  -- what was checked decides
+  -- what was judged decides
   decided :
-      {k : Checked} → length (start .args .text .now) ≤ longest → c .key-table .result .checked ≡ k →
-      evaluatedOver (judgedBy k) (run (readingOf (start .args .text .now) (start .args .table .now)) (allowed (start .args .allowance))) (valueIn (start .args .text .now) (start .args .table .now))
-      ≡ evaluated (start .args .text .now) (start .args .table .now) (start .args .allowance)
-  decided h e = over (start .args .text .now) (start .args .table .now) (start .args .allowance) _ h (sym (c .key-table .ensures .checked) ∙ e)
+      {k : Judged} → length (start .args .text .now) ≤ longest → c .key-tables .result .judged ≡ k →
+      evaluatedOver (judgedBy k) (run (readingOf (start .args .text .now) (start .args .farm .now) (start .args .house .now)) (allowed (start .args .allowance))) (valueIn (start .args .text .now) (start .args .farm .now) (start .args .house .now))
+      ≡ evaluated (start .args .text .now) (start .args .farm .now) (start .args .house .now) (start .args .allowance)
+  decided h e = over (start .args .text .now) (start .args .farm .now) (start .args .house .now) (start .args .allowance) _ h (sym (c .key-tables .ensures .judged) ∙ e)
 
 returns : tie.Need-returns
 returns c =
-    let a = c .before .before .before .before .args in
-    c .refused .ensures ∙ too-long (a .text .now) (a .table .now) (a .allowance) (omega arith)
+    let a = c .before .before .before .before .before .args in
+    c .refused .ensures ∙ too-long (a .text .now) (a .farm .now) (a .house .now) (a .allowance) (omega arith)
 
 part-evaluate-over-end : tie.Need-part-evaluate-over-end
 part-evaluate-over-end c =
     let k = c .before .before in
-    lines-inside (k .before .before .before .before .before .key-table .ensures) (k .checked2 .given .1)
+    lines-inside (k .before .before .before .before .before .key-tables .ensures) (k .judged2 .given .1)
 
 evaluate-over-requires : tie.Need-evaluate-over-requires
 evaluate-over-requires c κs =
     let k = c .before .before .before in
-    all-lines (k .before .before .before .before .before .key-table .ensures) (k .checked2 .given .1)
+    all-lines (k .before .before .before .before .before .key-tables .ensures) (k .judged2 .given .1)
 
 returns-2 : tie.Need-returns-2
-returns-2 c = decided (c .before .before .before .before .before .before) (omega arith) (c .before .checked .given .1)
+returns-2 c = decided (c .before .before .before .before .before .before) (omega arith) (c .before .judged .given .1)
 
 returns-3 : tie.Need-returns-3
 returns-3 c =
     let k = c .before .before .before .before in
     let t = k .before .before .before .before .before in
     let a = start t .args in
-    over-good (a .text .now) (a .table .now) (a .allowance) _ _ (c .evaluate-over .ensures) (c .before .before .cap .ensures .0)
-    (decided t (omega arith) (k .checked2 .given .1))
+    over-good (a .text .now) (a .farm .now) (a .house .now) (a .allowance) _ _ (c .evaluate-over .ensures) (c .before .before .cap .ensures .0)
+    (decided t (omega arith) (k .judged2 .given .1))
 
 pub evaluate-spec : {M : Type 1} → statement M
 evaluate-spec =

@@ -18,17 +18,17 @@ use borrow.Author.Needs.{needs}
 use Rattle.expressions.proofs.evaluate_over.Statement.{statement}
 use Rattle.expressions.proofs.evaluate_over.Tie as tie
 
-evaluated-whole : (text table : List ℕ) (left : ℕ) (part last : Part) (r : Evaluated)
-    → part ≡ partOf (namesOf table) (Open left) (levelAt text loosest (operandAt text 16) 0) → last ≡ partUpTo text TextEnd part → r ≡ answerOf last
-    → r ≡ evaluatedBy (run (readingOf text table) left) (valueIn text table)
+evaluated-whole : (text farm house : List ℕ) (left : ℕ) (part last : Part) (r : Evaluated)
+    → part ≡ partOf (namesOf farm house) (Open left) (levelAt text loosest (operandAt text 16) 0) → last ≡ partUpTo text TextEnd part → r ≡ answerOf last
+    → r ≡ evaluatedBy (run (readingOf text farm house) left) (valueIn text farm house)
 unfolding wholeTree
-evaluated-whole text table left part last r p e h =
+evaluated-whole text farm house left part last r p e h =
     let parsed = levelAt text loosest (operandAt text 16) 0 in
-    h ∙ ap answerOf (e ∙ ap (partUpTo text TextEnd) p ∙ part-up-to (namesOf table) text TextEnd (Open left) parsed)
-    ∙ part-answer (namesOf table) left (treeUpTo text TextEnd parsed)
+    h ∙ ap answerOf (e ∙ ap (partUpTo text TextEnd) p ∙ part-up-to (namesOf farm house) text TextEnd (Open left) parsed)
+    ∙ part-answer (namesOf farm house) left (treeUpTo text TextEnd parsed)
 
 returns : tie.Need-returns
-returns c = evaluated-whole _ _ _ _ _ _ (c .before .before .disjunction .ensures) (c .before .up-to .ensures) (c .answer-of .ensures)
+returns c = evaluated-whole _ _ _ _ _ _ _ (c .before .before .disjunction .ensures) (c .before .up-to .ensures) (c .answer-of .ensures)
 
 pub evaluate-over-spec : {M : Type 1} → statement M
 evaluate-over-spec =

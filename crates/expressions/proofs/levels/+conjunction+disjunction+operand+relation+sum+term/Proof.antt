@@ -45,7 +45,7 @@ use Rattle.expressions.proofs.levels.+conjunction+disjunction+operand+r
 
 -- the six have the same parameters, and a measure that goes by the level's number
 abbrev measure : ℕ → Measures 3 operand-kinds.ps ℕ
-measure level κs a = 8 * a .1 .1 .1 .0 + level
+measure level κs a = 8 * a .1 .1 .1 .1 .0 + level
 
 abbrev entered : ℕ → In 3 operand-kinds.ps → ℕ → In 3 operand-kinds.ps
 entered level asked t = and 3 operand-kinds.ps (is 3 operand-kinds.ps (measure level) t) asked
@@ -68,12 +68,12 @@ calls asked told = (
 
 -- a level's invariant is the part so far as a tree from which the level goes on, whatever the account was at its start
 abbrev so-far : ℕ → term-lts.InvT-loop
-so-far tighter text table keys levels at lhs₀ lhs =
-    (account : Account) → lhs₀ ≡ partOf (namesOf table) account (levelAt text tighter (operandAt text levels) at)
-    → Chain (namesOf table) text tighter levels account at lhs
+so-far tighter text farm house keys levels at lhs₀ lhs =
+    (account : Account) → lhs₀ ≡ partOf (namesOf farm house) account (levelAt text tighter (operandAt text levels) at)
+    → Chain (namesOf farm house) text tighter levels account at lhs
 
 abbrev left-over : term-lts.MeasureT-loop
-left-over text table keys levels at lhs₀ lhs = remaining (length text) lhs
+left-over text farm house keys levels at lhs₀ lhs = remaining (length text) lhs
 
 -- and those that the operand calls
 abbrev operand-calls : ℕ → operand-lts.Claims
@@ -187,18 +187,18 @@ pub +conjunction+disjunction+operand+relation+sum+term-spec : {M : Type 1} → s
     (λ c κs. search needs)
     (λ c.
     let s = c .before .before .before .before in
-    let a = s .before .before .before .before .args in
+    let a = s .before .before .before .before .before .args in
     let token = c .before .before .token .given in
     starts-with _ _ _ _ _ _ (s .token-at .ensures) (Number _) _ _ (token .1) refl
-    (c .number .ensures ∙ number-part (namesOf (a .table .now)) (token .0 .0) (s .token-at .result .next) (a .account)))
+    (c .number .ensures ∙ number-part (namesOf (a .farm .now) (a .house .now)) (token .0 .0) (s .token-at .result .next) (a .account)))
     (λ c. starts-with _ _ _ _ _ _ (c .before .before .before .token-at .ensures) (FaultyNumber _ _) (faulty _ _) _ (c .before .token2 .given .1) refl refl)
     (λ c.
     let s = c .before .before .before .before in
-    let begun = s .before .before .before .before in
+    let begun = s .before .before .before .before .before in
     let a = begun .args in
     let l = s .token-at .result in
     starts-with _ _ _ _ _ _ (s .token-at .ensures) Name _ _ (c .before .before .enum-told .given .1) refl
-    (c .named .ensures ∙ named-part (l .place) (l .next) (a .table .now) (a .keys .now) (take (l .next - l .place) (drop (l .place) (a .text .now))) (a .account) (begun .pre .1)))
+    (c .named .ensures ∙ named-part (l .place) (l .next) (a .farm .now) (a .house .now) (a .keys .now) (take (l .next - l .place) (drop (l .place) (a .text .now))) (a .account) (begun .pre .1)))
     (λ c.
     let s = c .before .before .before .before .before .before in
     operator-covers _ _ _ _ _ _ (s .before .before .token-at .ensures) _ (s .token3 .given .1) _ _ (ap not (sym (c .before .before .before .before .stands-alone .ensures)) ∙ c .before .before .before .if1 .left) (c .before .before .if2 .left)
