@@ -16,9 +16,9 @@ shown (Written end need free) given = given
 shown (Refused number at need free) given = refusalLine number (at .0)
 shown (BadTable number at free) given = refusalLine number (at .0)
 
--- a text with no table, no flags, allowance 0 and room 65,535
+-- a text with two empty tables, no flags, allowance 0 and room 65,535
 unfoldable pub answerTo : List ℕ → List ℕ
-answerTo text = shown (translated text [] 0 0 longest) (bytes (readingOf text [] 0))
+answerTo text = shown (translated text [] [] 0 0 longest) (bytes (readingOf text [] [] 0))
 
 -- a buffer holds the answer to the text that stands at the start of another, and behind it what it held before
 abbrev pub Answered : List ℕ → ℕ → List ℕ → List ℕ → ℕ → Type 0

@@ -18,14 +18,14 @@ pub struct Lengths {
     pub answer: usize,
 }
 
-// The answer to a text, at the start of `out`: its translation, or the line of its refusal. There is no table, no flag is set, and
+// The answer to a text, at the start of `out`: its translation, or the line of its refusal. Both tables are empty, no flag is set, and
 // no look-up is allowed. What stands behind the answer stays.
 pub fn answer(text: &[u8], out: &mut [u8; 65535]) -> usize
     ensures length { λ r. ⌜ r ≡ length (answerTo (now (text .entry))) ⌝ }
     ensures buffer { λ r. ⌜ now (out .exit) ≡ answerTo (now (text .entry)) ++ drop r (now (out .entry)) ⌝ }
 {
     let no_table = &text[0..0];
-    let translated = gs::translate(text, no_table, Flags::none(), 0, out);
+    let translated = gs::translate(text, no_table, no_table, Flags::none(), 0, out);
     match translated {
         Translated::Written {
             end: _,
@@ -40,6 +40,7 @@ pub fn answer(text: &[u8], out: &mut [u8; 65535]) -> usize
         } => lines::refusal(number, at.0, out),
         Translated::BadTable {
             number,
+            holder: _,
             at: record,
             free: _,
         } => lines::refusal(number, record.0, out),

@@ -21,7 +21,6 @@ use Rattle.forms.specs.Calls.{decimalOf}
 use Rattle.forms.specs.declared.forms.Width.the-variants.{Word}
 use Rattle.numbers.proofs.Bounds.{decimal-short}
 use Rattle.symbols.specs.Symbols.{symbolAt, firstAt, modeOf}
-use Rattle.gs.proofs.Pieces.{AllBytes}
 use Rattle.gs.specs.Readings.{givesAll, deepest, Expand, nameGives, contentGives, symbolGives, symbolsFrom, wholeText, expands}
 use Rattle.gs.specs.Translations.{readingOf, translatedBy, translatedOver, translated, translatedAnswer, metNumbers, translateNumbers}
 use Rattle.gs.specs.declared.Translated.{Translated}
@@ -38,7 +37,7 @@ use Rattle.variables.specs.Names.{Meaning, unknown, string-of, integer-of, macr
 use Rattle.variables.specs.Judgements.{judged, judgedBy}
 use Rattle.variables.specs.declared.both.Judged.{Judged}
 use Rattle.variables.specs.declared.both.Judged.the-variants.{Good as AllGood, BadTable as OneBad}
-use Rattle.variables.proofs.Bounds.{Within, judged-within}
+use Rattle.variables.proofs.Bounds.{AllBytes, Within, judged-within}
 use Rattle.variables.proofs.Own.{OwnHeld, both-own}
 use Rattle.symbols.proofs.Places.{Stands, quoteOf, symbol-stands, first-stands}
 use Rattle.gs.proofs.Meetings.{read-met}

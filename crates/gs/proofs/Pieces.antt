@@ -16,8 +16,6 @@ use Rattle.paper.proofs.Choice.{either}
 use Rattle.reader.specs.Reading.{reading, no-limit}
 use Rattle.reader.specs.declared.Reading.{Reading}
 use Rattle.reader.specs.declared.Reading.the-variants.{Value, Refused}
-use Rattle.paper.specs.declared.Holder.{Holder}
-use Rattle.paper.specs.declared.Holder.the-variants.{Farm, House}
 use Rattle.records.specs.Kinds.{kindOf, variableAt, pattern}
 use Rattle.records.specs.declared.Variable.{Variable}
 use Rattle.records.specs.declared.kinds.Kind.{Kind}
@@ -27,6 +25,7 @@ use Rattle.variables.specs.Holdings.{heldBy, Holding, nowhere, held, soughtInBo
 use Rattle.variables.specs.Lookups.{partOf}
 use Rattle.variables.specs.Names.{valueAs, meant, inReading, namesOf}
 use Rattle.variables.specs.inner.Keys.{matchAs}
+use Rattle.variables.proofs.Bounds.{AllBytes}
 use Rattle.variables.proofs.Own.{OwnHeld, both-own}
 use Rattle.forms.specs.Calls.{decimalOf}
 use Rattle.gs.specs.Readings.{Expand, givesAll, nameGives, contentGives}
@@ -120,14 +119,6 @@ module _ (farm house name : List ℕ) (expand : Expand) (place : ℕ) (rest : Tr
       ≡ pieceOf farm house expand (referredIn farm house name) name place rest
   unfolding referredIn
   content-piece = read-piece (reading name true no-limit) (soughtInBoth farm house name) (both-own farm house name) refl
-
--- the bytes of two tables are bytes
-abbrev pub AllBytes : List ℕ → List ℕ → Type 0
-AllBytes farm house = (holder : Holder) (k : ℕ) → getD (heldBy holder farm house) k 0 ≤ 255
-
-pub all-bytes : (farm house : List ℕ) → ((k : ℕ) → getD farm k 0 ≤ 255) → ((k : ℕ) → getD house k 0 ≤ 255) → AllBytes farm house
-all-bytes farm house f h Farm k = f k
-all-bytes farm house f h House k = h k
 
 -- a value's length is one byte of its record
 module _ (farm house : List ℕ) (bytes : AllBytes farm house) where

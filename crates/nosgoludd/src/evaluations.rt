@@ -2,8 +2,8 @@
 ghost use mathlib.Core.Path.{_≡_};
 ghost use Rattle.expressions.specs.Answers.{evaluated};
 ghost use Rattle.nosgoludd.specs.Faces.{evaluationFace};
-use crate::IN_THE_TABLE;
 use crate::IN_THE_TEXT;
+use crate::counted_in;
 use crate::patterns::signed;
 use expressions::Evaluated;
 
@@ -17,10 +17,15 @@ pub struct NosValue {
 }
 
 #[no_mangle]
-pub extern "C" fn nos_evaluate(text: &[u8], table: &[u8], allowance: u32) -> NosValue
-    ensures { λ r. ⌜ r ≡ evaluationFace (evaluated (now (text .entry)) (now (table .entry)) allowance) ⌝ }
+pub extern "C" fn nos_evaluate<'a>(
+    text: &[u8],
+    farm: &'a [u8],
+    house: &'a [u8],
+    allowance: u32,
+) -> NosValue
+    ensures { λ r. ⌜ r ≡ evaluationFace (evaluated (now (text .entry)) (now (farm .entry)) (now (house .entry)) allowance) ⌝ }
 {
-    let answer = expressions::evaluate(text, table, allowance);
+    let answer = expressions::evaluate(text, farm, house, allowance);
     match answer {
         Evaluated::Value { pattern, end } => NosValue {
             number: 0,
@@ -34,9 +39,9 @@ pub extern "C" fn nos_evaluate(text: &[u8], table: &[u8], allowance: u32) -> Nos
             place: at.0,
             value: 0,
         },
-        Evaluated::BadTable { number, at } => NosValue {
+        Evaluated::BadTable { number, holder, at } => NosValue {
             number: number as u32,
-            counted: IN_THE_TABLE,
+            counted: counted_in(holder),
             place: at.0,
             value: 0,
         },

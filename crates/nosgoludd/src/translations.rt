@@ -3,25 +3,26 @@ ghost use mathlib.Core.Path.{_≡_};
 ghost use lib.ListN.{length};
 ghost use Rattle.gs.specs.Translations.{translated, translatedAnswer, outAfter};
 ghost use Rattle.nosgoludd.specs.Faces.{answerFace};
-use crate::IN_THE_TABLE;
 use crate::IN_THE_TEXT;
 use crate::NosAnswer;
+use crate::counted_in;
 use gs::Translated;
 use symbols::flags::Flags;
 
 // Bits 29, 30 and 31 of `flags` are the text's flags; its other bits count for nothing. Where accepted, the place is the text's end.
 #[no_mangle]
-pub extern "C" fn nos_translate(
+pub extern "C" fn nos_translate<'a>(
     text: &[u8],
-    table: &[u8],
+    farm: &'a [u8],
+    house: &'a [u8],
     flags: u32,
     allowance: u32,
     out: &mut [u8],
 ) -> NosAnswer
-    ensures answer { λ r. ⌜ r ≡ answerFace (translatedAnswer (translated (now (text .entry)) (now (table .entry)) flags allowance (length (now (out .entry))))) ⌝ }
-    ensures buffer { λ r. ⌜ now (out .exit) ≡ outAfter (now (text .entry)) (now (table .entry)) flags allowance (now (out .entry)) ⌝ }
+    ensures answer { λ r. ⌜ r ≡ answerFace (translatedAnswer (translated (now (text .entry)) (now (farm .entry)) (now (house .entry)) flags allowance (length (now (out .entry))))) ⌝ }
+    ensures buffer { λ r. ⌜ now (out .exit) ≡ outAfter (now (text .entry)) (now (farm .entry)) (now (house .entry)) flags allowance (now (out .entry)) ⌝ }
 {
-    let answer = gs::translate(text, table, Flags::of(flags), allowance, out);
+    let answer = gs::translate(text, farm, house, Flags::of(flags), allowance, out);
     match answer {
         Translated::Written { end, need, free } => NosAnswer {
             number: 0,
@@ -42,9 +43,14 @@ pub extern "C" fn nos_translate(
             need,
             free,
         },
-        Translated::BadTable { number, at, free } => NosAnswer {
+        Translated::BadTable {
+            number,
+            holder,
+            at,
+            free,
+        } => NosAnswer {
             number: number as u32,
-            counted: IN_THE_TABLE,
+            counted: counted_in(holder),
             place: at.0,
             need: 0,
             free,

@@ -7,7 +7,7 @@ use Prim.Native.Nat.{ℕ, zero, suc, _+_, _≤_, _<_}
 use native.Mathlib.Omega.{arith}
 use borrow.Author.Tests.{leb-false, ltb-true, ltb-false}
 use lib.Dec.{ltb, leb}
-use lib.ListN.{length}
+use lib.ListN.{length, getD}
 use Rattle.paper.specs.Refusals.{unknown-name, allowance-spent, bad-table, over-length, longest}
 use Rattle.paper.specs.declared.Holder.{Holder}
 use Rattle.paper.specs.declared.Holder.the-variants.{Farm, House}
@@ -18,9 +18,9 @@ use Rattle.records.specs.Kinds.{kindOf}
 use Rattle.records.proofs.KindLaws.{kind-bounded}
 use Rattle.variables.specs.Tables as Tables
 use Rattle.variables.specs.Tables.{most, Sought, absent, present, sound, scanned, scan, checked, recordsOf, soughtIn, checkNumber, checkPlace, checkCount, checkNumbers}
-use Rattle.variables.specs.Holdings.{heldBy, Holding, nowhere, heldIn, orElse}
+use Rattle.variables.specs.Holdings.{heldBy, Holding, nowhere, held, heldIn, orElse, soughtInBoth}
 use Rattle.variables.specs.Judgements.{badTable, judged}
-use Rattle.variables.specs.Lookups.{foundAs, foundBy, lookedUp, foundNumber, foundPlace, foundKind, lookUpNumbers}
+use Rattle.variables.specs.Lookups.{foundAs, foundBy, lookedUp, foundNumber, foundPlace, foundKind, foundLength, lookUpNumbers}
 use Rattle.variables.specs.declared.Checked.{Checked}
 use Rattle.variables.specs.declared.Checked.the-variants.{Good, BadTable}
 use Rattle.variables.specs.declared.both.Found.{Found}
@@ -160,3 +160,24 @@ looked-up-bounded farm house name = go (judged farm house) refl
         in-good Farm farm house name (laid farm (g .farm-good)) (heldIn House (soughtIn house name))
         (subst (λ h. FoundBounded (foundAs farm house h)) (or-nowhere (heldIn House (soughtIn house name)))
         (in-good House farm house name (laid house (g .house-good)) nowhere unknown))
+
+-- the bytes of two tables are bytes
+abbrev pub AllBytes : List ℕ → List ℕ → Type 0
+AllBytes farm house = (holder : Holder) (k : ℕ) → getD (heldBy holder farm house) k 0 ≤ 255
+
+pub all-bytes : (farm house : List ℕ) → ((k : ℕ) → getD farm k 0 ≤ 255) → ((k : ℕ) → getD house k 0 ≤ 255) → AllBytes farm house
+all-bytes farm house f h Farm k = f k
+all-bytes farm house f h House k = h k
+
+-- so a value that is found has 255 of them at most
+pub value-short : (farm house name : List ℕ) → AllBytes farm house → foundLength (lookedUp farm house name) ≤ 255
+unfolding lookedUp
+value-short farm house name bytes = by-judged (judged farm house)
+  where
+    sought-short : (h : Holding) → foundLength (foundAs farm house h) ≤ 255
+    sought-short nowhere = omega arith
+    sought-short (held holder e) = bytes holder (e .place + 4)
+
+    by-judged : (r : Judged) → foundLength (foundBy farm house name r) ≤ 255
+    by-judged (AllGood count) = sought-short (soughtInBoth farm house name)
+    by-judged (OneBad number holder at) = omega arith

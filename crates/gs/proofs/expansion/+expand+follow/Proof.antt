@@ -6,6 +6,7 @@ use native.Mathlib.Omega.{arith}
 use lib.ListN.{length, take, drop, length-take}
 use borrow.Author.Needs.{needs}
 use denote.Ref.{now}
+use Rattle.variables.proofs.Bounds.{all-bytes}
 use Rattle.variables.specs.Names.{namesOf}
 use Rattle.variables.specs.Holdings.{heldBy}
 use Rattle.variables.specs.Lookups.{partOf}
@@ -17,7 +18,7 @@ use Rattle.references.specs.References.{referredIn}
 use Rattle.references.proofs.Resolved.{by-own-keys}
 use Rattle.gs.specs.inner.Steps.{Came, Read, pieceOf, lengthIn}
 use Rattle.records.specs.declared.Variable.{Variable}
-use Rattle.gs.proofs.Pieces.{laid-at, value-small, all-bytes}
+use Rattle.gs.proofs.Pieces.{laid-at, value-small}
 use Rattle.gs.proofs.PlainRuns.{at-run}
 use Rattle.symbols.proofs.Places.{Stands, quoteOf, symbol-stands}
 use Rattle.gs.proofs.Follows.{number-gives, too-big-gives, unknown-gives, text-gives, integer-gives, too-deep-gives, spent-gives, value-gives}

@@ -30,7 +30,9 @@ returns-2 c = ap evaluationFace (sym (c .before .answer2 .given .1) ∙ c .befor
 
 returns-3 : tie.Need-returns-3
 unfolding signed
-returns-3 c = ap evaluationFace (sym (c .before .answer3 .given .1) ∙ c .before .before .before .evaluate .ensures)
+returns-3 c =
+    rw (c .counted-in .ensures)
+    (ap evaluationFace (sym (c .before .before .answer3 .given .1) ∙ c .before .before .before .before .evaluate .ensures))
 
 pub nos-evaluate-spec : {M : Type 1} → statement M
 nos-evaluate-spec =
@@ -43,6 +45,7 @@ nos-evaluate-spec =
     (λ c. search needs)
     (λ c. search needs)
     (λ c. search needs)
+    (λ c κs. search needs)
     returns
     returns-2
     returns-3)

@@ -15,19 +15,19 @@ carried f e k = e ∙ ap f k
 
 -- the C form of an answer that is known
 told : (c : tie.After-translate) (r : Translated) → c .translate .result ≡ r
-    → let a = c .before .before .before .before .before .before .args in
-    answerFace (translatedAnswer r) ≡ answerFace (translatedAnswer (translated (a .text .now) (a .table .now) (a .flags) (a .allowance) (length (a .out .now))))
+    → let a = c .before .before .before .before .before .before .before .args in
+    answerFace (translatedAnswer r) ≡ answerFace (translatedAnswer (translated (a .text .now) (a .farm .now) (a .house .now) (a .flags) (a .allowance) (length (a .out .now))))
 told c r known =
-    let a = c .before .before .before .before .before .before .args in
+    let a = c .before .before .before .before .before .before .before .args in
     ap (λ r. answerFace (translatedAnswer r))
     (sym known
-    ∙ carried (λ f. translated (a .text .now) (a .table .now) f (a .allowance) (length (a .out .now))) (c .translate .ensures .0) (c .before .before .of .ensures))
+    ∙ carried (λ f. translated (a .text .now) (a .farm .now) (a .house .now) f (a .allowance) (length (a .out .now))) (c .translate .ensures .0) (c .before .before .of .ensures))
 
 left : (c : tie.After-translate)
-    → let a = c .before .before .before .before .before .before .args in c .translate .last .1 .1 .1 .1 .0 ≡ outAfter (a .text .now) (a .table .now) (a .flags) (a .allowance) (a .out .now)
+    → let a = c .before .before .before .before .before .before .before .args in c .translate .last .1 .1 .1 .1 .1 .0 ≡ outAfter (a .text .now) (a .farm .now) (a .house .now) (a .flags) (a .allowance) (a .out .now)
 left c =
-    let a = c .before .before .before .before .before .before .args in
-    carried (λ f. outAfter (a .text .now) (a .table .now) f (a .allowance) (a .out .now)) (c .translate .ensures .1) (c .before .before .of .ensures)
+    let a = c .before .before .before .before .before .before .before .args in
+    carried (λ f. outAfter (a .text .now) (a .farm .now) (a .house .now) f (a .allowance) (a .out .now)) (c .translate .ensures .1) (c .before .before .of .ensures)
 
 returns : tie.Need-returns
 returns c =
@@ -41,8 +41,8 @@ returns-2 c =
 
 returns-3 : tie.Need-returns-3
 returns-3 c =
-    let at = c .before .before .before .before .before in
-    (told at _ (c .before .answer3 .given .1), left at)
+    let at = c .before .before .before .before .before .before in
+    (rw (c .counted-in .ensures) (told at _ (c .before .before .answer3 .given .1)), left at)
 
 pub nos-translate-spec : {M : Type 1} → statement M
 nos-translate-spec =
@@ -55,6 +55,7 @@ nos-translate-spec =
     (λ c. search needs)
     (λ c. search needs)
     (λ c. search needs)
+    (λ c κs. search needs)
     (λ c. search needs)
     returns
     (λ c. search needs)
