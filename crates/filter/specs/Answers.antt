@@ -14,7 +14,7 @@ use Rattle.filter.specs.Lines.{refusalLine}
 abbrev pub shown : Translated → List ℕ → List ℕ
 shown (Written end need free) given = given
 shown (Refused number at need free) given = refusalLine number (at .0)
-shown (BadTable number at free) given = refusalLine number (at .0)
+shown (BadTable number holder at free) given = refusalLine number (at .0)
 
 -- a text with two empty tables, no flags, allowance 0 and room 65,535
 unfoldable pub answerTo : List ℕ → List ℕ
