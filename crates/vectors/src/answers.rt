@@ -1,6 +1,7 @@
 // A line of answer, written to standard output piece by piece: no buffer has to be lent for it. A write that fails leaves a
 // gap there, which the comparison shows.
 use libc::STDOUT_FILENO;
+use paper::Holder;
 use paper::bytes::byte;
 
 // The answer to a line that is no case.
@@ -20,11 +21,20 @@ pub(crate) fn refusal_at(why: u8, place: usize) {
     number(place);
 }
 
-// A refusal that says whether it counts its place in the text or among the records: `no N t` or `no N r`.
-pub(crate) fn refusal_in(why: u8, counted: u8) {
+// A refusal that says what it counts its place in, `t` for the text or a table's letter: `no N W PLACE`.
+pub(crate) fn refusal_in(why: u8, counted: u8, place: usize) {
     refusal(why);
     letter(b' ');
     letter(counted);
+    number(place);
+}
+
+// The letter of a table.
+pub(crate) fn letter_of(holder: Holder) -> u8 {
+    match holder {
+        Holder::Farm => b'f',
+        Holder::House => b'h',
+    }
 }
 
 pub(crate) fn word(letters: &[u8]) {

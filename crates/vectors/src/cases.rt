@@ -11,8 +11,8 @@ use crate::fields;
 use crate::frame::Lent;
 use crate::slices;
 
-// Two texts of the longest.
-pub const ROOM: usize = 140000;
+// A text and two tables of the longest.
+pub const ROOM: usize = 210000;
 
 pub type Held = [u8; ROOM];
 
@@ -30,7 +30,7 @@ const EVAL: usize = 5;
 
 // The operation that a line asks for: the number of the form that it fits, and one more than all where it is no case.
 fn asked(line: &[u8]) -> usize {
-    let forms = b"conv N N R,read B F L,table B,look B B,trans B B N N R,eval B B N";
+    let forms = b"conv N N R,read B F L,table B,look B B B,trans B B B x N N R,eval B B B N";
     let mut operation = CONV;
     while operation <= EVAL {
         if fields::fit(line, slices::piece(forms, b',', operation)) {
@@ -41,30 +41,32 @@ fn asked(line: &[u8]) -> usize {
     operation
 }
 
-// Writes the answer to a line. `held` takes the bytes that its fields give in hex, which are the first two fields behind
+// Writes the answer to a line. `held` takes the bytes that its fields give in hex, which are the first three fields behind
 // the word at most: where these are something else, no operation looks at what they gave.
 pub(crate) fn answer(line: &[u8], held: &mut Held, lent: &mut Lent) {
-    let middle = fields::unpack(line, 1, held, 0);
-    let end = fields::unpack(line, 2, held, middle);
+    let second = fields::unpack(line, 1, held, 0);
+    let third = fields::unpack(line, 2, held, second);
+    let end = fields::unpack(line, 3, held, third);
     let bytes: &[u8] = held;
     run(
         line,
-        slices::part(bytes, 0, middle),
-        slices::part(bytes, middle, end),
+        slices::part(bytes, 0, second),
+        slices::part(bytes, second, third),
+        slices::part(bytes, third, end),
         lent,
     );
     answers::letter(b'\n');
 }
 
 // `lent` is the buffer of an operation that writes.
-fn run(line: &[u8], first: &[u8], second: &[u8], lent: &mut Lent) {
+fn run<'a>(line: &[u8], first: &'a [u8], second: &'a [u8], third: &'a [u8], lent: &mut Lent) {
     match asked(line) {
         CONV => conv::answer(line, lent),
         READ => read::answer(line, first),
         TABLE => table::answer(first),
-        LOOK => look::answer(first, second),
-        TRANS => trans::answer(line, first, second, lent),
-        EVAL => eval::answer(line, first, second),
+        LOOK => look::answer(first, second, third),
+        TRANS => trans::answer(line, first, second, third, lent),
+        EVAL => eval::answer(line, first, second, third),
         _ => answers::bad_line(),
     }
 }

@@ -12,8 +12,8 @@ const LARGEST: u64 = 4294967295;
 // How many hex digits a field has at most: two for each of 70,000 bytes.
 const MOST_DIGITS: usize = 140000;
 
-// Whether a line has the fields of a form, where `N` stands for a number, `F` for 0 or 1, `R` for a number of bytes that can be lent, `L` for a number or "-", `B` for
-// bytes in hex or "-", and another word for itself.
+// Whether a line has the fields of a form, where `N` stands for a number, `F` for 0 or 1, `R` for a number of bytes that can be lent,
+// `L` for a number or "-", `B` for bytes in hex or "-", and another word for itself.
 pub(crate) fn fit(line: &[u8], form: &[u8]) -> bool {
     let mut index = 0;
     while index < form.len() {

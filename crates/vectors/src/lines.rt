@@ -3,7 +3,7 @@ ghost use Prim.Native.Nat.{_≤_};
 ghost use lib.ListN.{length};
 use libc::STDIN_FILENO;
 
-// The longest line has two texts in hex.
+// The longest line has a text and two tables in hex.
 pub const ROOM: usize = 524288;
 
 pub type Buffer = [u8; ROOM];

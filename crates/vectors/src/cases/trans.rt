@@ -1,4 +1,4 @@
-// `trans TEXTHEX TABLEHEX FLAGS ALLOWANCE ROOM`: the translation of a text over a table.
+// `trans TEXTHEX FARMHEX HOUSEHEX x FLAGS ALLOWANCE ROOM`: the translation of a text over two tables. The `x` says that no index is given.
 use crate::answers;
 use crate::fields;
 use crate::frame;
@@ -7,11 +7,17 @@ use crate::slices;
 use gs::Translated;
 use symbols::flags::Flags;
 
-pub(crate) fn answer(line: &[u8], text: &[u8], table: &[u8], lent: &mut [u8]) {
-    let flags = Flags(fields::number(line, 3));
-    let allowance = fields::number(line, 4);
-    let room = fields::number(line, 5);
-    let translated = gs::translate(text, table, flags, allowance, frame::room(lent, room));
+pub(crate) fn answer<'a>(
+    line: &[u8],
+    text: &[u8],
+    farm: &'a [u8],
+    house: &'a [u8],
+    lent: &mut [u8],
+) {
+    let flags = Flags(fields::number(line, 5));
+    let allowance = fields::number(line, 6);
+    let room = fields::number(line, 7);
+    let translated = gs::translate(text, farm, house, flags, allowance, frame::room(lent, room));
     show(translated, frame::framed(lent, room));
 }
 
@@ -24,9 +30,12 @@ fn show(translated: Translated, framed: &[u8]) {
             need,
             free,
         } => refused(number, b't', at.0, need, free, framed),
-        Translated::BadTable { number, at, free } => {
-            refused(number, b'r', at.0, 0, free, framed)
-        }
+        Translated::BadTable {
+            number,
+            holder,
+            at,
+            free,
+        } => refused(number, answers::letter_of(holder), at.0, 0, free, framed),
     }
 }
 
@@ -42,8 +51,7 @@ fn written(end: usize, need: usize, free: usize, framed: &[u8]) {
 
 // `no N W PLACE NEED FREE`
 fn refused(number: u8, counted: u8, place: usize, need: usize, free: usize, framed: &[u8]) {
-    answers::refusal_in(number, counted);
-    answers::number(place);
+    answers::refusal_in(number, counted, place);
     answers::number(need);
     answers::number(free);
     frame::watch(framed, FILLER);

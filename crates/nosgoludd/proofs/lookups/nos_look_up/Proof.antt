@@ -26,7 +26,7 @@ cast-t16 c =
     let a = at .before .before .before .before .args in
     let bytes = all-bytes (a .farm .now) (a .house .now) (λ k. omega (arith, at .before .before .shared-slice-known2 .given k)) (λ k. omega (arith, at .before .shared-slice-known3 .given k)) in
     let short : foundLength (At (found .answer .given .0 .0)) ≤ 255 =
-            subst (λ f. foundLength f ≤ 255) (sym (at .look-up .ensures) ∙ found .answer .given .1) (value-short (a .farm .now) (a .house .now) (a .name .now) bytes) in
+    subst (λ f. foundLength f ≤ 255) (sym (at .look-up .ensures) ∙ found .answer .given .1) (value-short (a .farm .now) (a .house .now) (a .name .now) bytes) in
     record { fits = omega (arith, short) }
 
 returns : tie.Need-returns
