@@ -5,27 +5,27 @@ use crate::gs::{self, Flags, Translated};
 use crate::lines::{hex, Case};
 use crate::numbers;
 use crate::reader;
-use crate::refusal::{Located, Refused};
-use crate::variables::Table;
+use crate::refusal::{Located, Refused, Slice};
+use crate::variables::{LentTables, Table, Tables};
 
 pub fn answer(case: &Case) -> String {
     match case {
         Case::Conv { call, value, room } => conv(*call, *value, *room),
         Case::Read { text, whole, limit } => read(text, *whole, *limit),
         Case::Table { table } => count(table),
-        Case::Look { table, name } => look(table, name),
+        Case::Look { tables, name } => look(tables, name),
         Case::Trans {
             text,
-            table,
+            tables,
             flags,
             allowance,
             room,
-        } => trans(text, table, Flags(*flags), *allowance, *room),
+        } => trans(text, tables, Flags(*flags), *allowance, *room),
         Case::Eval {
             text,
-            table,
+            tables,
             allowance,
-        } => eval(text, table, *allowance),
+        } => eval(text, tables, *allowance),
     }
 }
 
@@ -56,21 +56,23 @@ fn count(table: &[u8]) -> String {
     }
 }
 
-fn look(table: &[u8], name: &[u8]) -> String {
-    let found = Table::read(table)
-        .ok()
-        .and_then(|table| table.look_up(name));
+fn look(tables: &LentTables, name: &[u8]) -> String {
+    let found = match Tables::read(tables) {
+        Ok(tables) => tables.look_up(name),
+        Err(refused) => return no_at(refused),
+    };
     match found {
-        Some(record) => {
-            let kind = record.kind as u8;
-            format!("rec {} {kind} {}", record.place, hex(record.value))
+        Some(found) => {
+            let (which, record) = (letter(found.slice), found.record);
+            let (place, kind) = (record.place, record.kind as u8);
+            format!("rec {which} {place} {kind} {}", hex(record.value))
         }
         None => "none".to_owned(),
     }
 }
 
-fn trans(text: &[u8], table: &[u8], flags: Flags, allowance: u32, room: usize) -> String {
-    match gs::translate(text, table, flags, allowance, room) {
+fn trans(text: &[u8], tables: &LentTables, flags: Flags, allowance: u32, room: usize) -> String {
+    match gs::translate(text, tables, flags, allowance, room) {
         Ok(Translated { output, end, free }) => {
             format!("ok {} {end} {} {free}", hex(&output), output.len())
         }
@@ -78,9 +80,9 @@ fn trans(text: &[u8], table: &[u8], flags: Flags, allowance: u32, room: usize) -
     }
 }
 
-fn eval(text: &[u8], table: &[u8], allowance: u32) -> String {
-    match expressions::evaluate(text, table, allowance) {
-        Ok(Value { value, end }) => format!("val {value} {end}"),
+fn eval(text: &[u8], tables: &LentTables, allowance: u32) -> String {
+    match expressions::evaluate(text, tables, allowance) {
+        Ok(Value { value, end }) => format!("int {value} {end}"),
         Err(refused) => no_at(refused),
     }
 }
@@ -90,13 +92,19 @@ fn no(refused: Refused) -> String {
     format!("no {} {}", refused.refusal.number(), refused.place)
 }
 
-/// A refusal that says whether its place is one in the text or one in the table.
-fn no_at(refused: Located) -> String {
-    let (which, refused) = match refused {
-        Located::InText(refused) => ('t', refused),
-        Located::InTable(refused) => ('r', refused),
-    };
-    format!("no {} {which} {}", refused.refusal.number(), refused.place)
+/// A refusal that says in which slice its place is counted.
+fn no_at(Located { refused, slice }: Located) -> String {
+    let (number, which) = (refused.refusal.number(), letter(slice));
+    format!("no {number} {which} {}", refused.place)
+}
+
+/// The letter that stands for a slice beside a place in it.
+fn letter(slice: Slice) -> char {
+    match slice {
+        Slice::Text => 't',
+        Slice::Farm => 'f',
+        Slice::House => 'h',
+    }
 }
 
 #[cfg(test)]
@@ -114,18 +122,37 @@ mod tests {
             ("read 33375f31 0 -", "no 3 0"),
             ("table -", "ok 0"),
             ("table 5652", "no 13 0"),
-            ("look 56520001016178 41", "rec 0 0 78"),
-            ("look 565200010061 41", "rec 0 0 -"),
-            ("look 56520001016178 42", "none"),
-            ("look 5652 42", "none"),
-            ("trans - - 0 0 0", "ok - 0 0 0"),
-            ("trans 3c413e62 56520001016178 0 1 3", "ok 7862 4 2 1"),
-            ("trans 6162 - 0 0 1", "no 1 t 0 2 1"),
-            ("trans 613c - 0 0 9", "no 9 t 1 0 9"),
-            ("trans - 5652 0 0 9", "no 13 r 0 0 9"),
-            ("eval 323134373438333634372b31 - 0", "val -2147483648 12"),
-            ("eval 312f302b28 - 0", "no 15 t 5"),
-            ("eval - 56 0", "no 13 r 0"),
+            ("look - 56520001016178 41", "rec h 0 0 78"),
+            ("look 56520001016178 565200010061 41", "rec f 0 0 78"),
+            ("look 565200010061 56520001016178 41", "rec f 0 0 -"),
+            (
+                "look 56520001016178 565200010062565201010463 41",
+                "no 13 h 6",
+            ),
+            (
+                "look 565200010062 565200010063565202010161ff 41",
+                "rec h 6 2 ff",
+            ),
+            ("look 56520001016178 - 42", "none"),
+            ("look - - -", "none"),
+            ("look - 5652 42", "no 13 h 0"),
+            ("look 56520001016178ff 5652 41", "no 13 f 7"),
+            ("trans - - - x 0 0 0", "ok - 0 0 0"),
+            ("trans 3c413e62 - 56520001016178 x 0 1 3", "ok 7862 4 2 1"),
+            (
+                "trans 3c413e62 56520001016178 565200010061 x 0 1 3",
+                "ok 7862 4 2 1",
+            ),
+            ("trans 6162 - - x 0 0 1", "no 1 t 0 2 1"),
+            ("trans 613c - - x 0 0 9", "no 9 t 1 0 9"),
+            ("trans - - 5652 x 0 0 9", "no 13 h 0 0 9"),
+            ("trans - 56520001006156 5652 x 0 0 9", "no 13 f 6 0 9"),
+            ("eval 323134373438333634372b31 - - 0", "int -2147483648 12"),
+            ("eval 69 - 565201010469070000000a 1", "no 13 h 10"),
+            ("eval 69 565201010469fdffffff 565200010049 1", "int -3 1"),
+            ("eval 69 - 565200010049 1", "no 17 t 0"),
+            ("eval 312f302b28 - - 0", "no 15 t 5"),
+            ("eval - 56 - 0", "no 13 f 0"),
         ] {
             let case = parse(line).expect(line);
             assert_eq!(answer(&case), expected, "{line}");

@@ -5,6 +5,7 @@ mod forms;
 mod gs;
 mod limits;
 mod numbers;
+mod pairs;
 mod reader;
 mod tables;
 mod values;
@@ -85,6 +86,7 @@ impl Operation {
 #[cfg(test)]
 mod tests {
     use super::*;
+    use crate::answers::answer;
     use crate::lines::parse;
 
     fn written(seed: u64, count: usize, operations: &[Operation]) -> Vec<String> {
@@ -104,6 +106,78 @@ mod tests {
             OPERATIONS.map(|operation| share(operation.name)),
             [4, 4, 3, 3, 3, 3]
         );
+    }
+
+    /// The words of an answer that say what kind of answer it is, without values and places.
+    fn kind_of(answer: &str) -> String {
+        let mut words = answer.split(' ');
+        let in_slice = |word: &&str| matches!(*word, "t" | "f" | "h");
+        match words.next() {
+            Some("no") => {
+                let number = words.next().expect("a refusal number");
+                let slice = words.next().filter(in_slice).unwrap_or_default();
+                format!("no {number} {slice}")
+            }
+            Some("rec") => format!("rec {}", words.next().expect("a table")),
+            word => word.unwrap_or_default().to_owned(),
+        }
+    }
+
+    /// Every kind of answer that an operation with two tables can give.
+    const KINDS: [(&str, &[&str]); 3] = [
+        (
+            "look",
+            &[
+                "rec f", "rec h", "none", "no 18 f", "no 18 h", "no 13 f", "no 13 h",
+            ],
+        ),
+        (
+            "trans",
+            &[
+                "ok", "no 18 t", "no 18 f", "no 18 h", "no 13 f", "no 13 h", "no 1 t", "no 4 t",
+                "no 7 t", "no 8 t", "no 9 t", "no 10 t", "no 11 t", "no 12 t",
+            ],
+        ),
+        (
+            "eval",
+            &[
+                "int", "no 18 t", "no 18 f", "no 18 h", "no 13 f", "no 13 h", "no 2 t", "no 3 t",
+                "no 4 t", "no 10 t", "no 11 t", "no 12 t", "no 15 t", "no 16 t", "no 17 t",
+            ],
+        ),
+    ];
+
+    #[test]
+    fn every_kind_of_answer_is_met_and_no_other() {
+        for (name, kinds) in KINDS {
+            let operation = operation(name).expect(name);
+            let fixed = (operation.fixed)().len();
+            let cases: Vec<Case> = operation.cases(1).take(fixed + 1_500).collect();
+            let kind = |case: &Case| kind_of(&answer(case));
+            let mut met: Vec<String> = cases.iter().map(kind).collect();
+            // Over-long slices are long lines, so no random case has one.
+            let among_random = |kind: &&str| met[fixed..].iter().any(|other| other == kind);
+            for kind in kinds.iter().filter(|kind| !kind.starts_with("no 18")) {
+                assert!(among_random(&kind), "{name}: {kind}");
+            }
+            met.sort();
+            met.dedup();
+            let mut kinds = kinds.to_vec();
+            kinds.sort();
+            assert_eq!(met, kinds, "{name}");
+        }
+    }
+
+    #[test]
+    fn no_line_is_longer_than_three_over_long_slices() {
+        for operation in OPERATIONS {
+            for case in (operation.fixed)() {
+                let line = case.to_string();
+                let longest = line.split(' ').map(str::len).max();
+                assert!(longest <= Some(2 * 70_000), "{}", operation.name);
+                assert!(line.len() < 2 * 210_000, "{}", operation.name);
+            }
+        }
     }
 
     #[test]

@@ -1,9 +1,9 @@
 //! Chapter "Expressions", second half: the levels of the operators, and their values.
 
 use crate::gs::{until_end, Allowance};
-use crate::refusal::{Located, Refusal, Refused};
+use crate::refusal::{Located, Refusal, Refused, Slice};
 use crate::tokens::{next_token, Kind, Operator, Token};
-use crate::variables::{table_for, Table};
+use crate::variables::{tables_for, LentTables, Tables};
 
 use Operator::*;
 
@@ -29,12 +29,12 @@ pub struct Value {
 }
 
 /// Evaluates a text: 18, 13; then the syntax of all of it; then the values from the left.
-pub fn evaluate(lent: &[u8], table: &[u8], allowance: u32) -> Result<Value, Located> {
-    let table = table_for(lent, table)?;
+pub fn evaluate(lent: &[u8], tables: &LentTables, allowance: u32) -> Result<Value, Located> {
+    let tables = tables_for(lent, tables)?;
     let text = until_end(lent);
     let value = steps_of(text)
-        .and_then(|steps| value_of(&steps, &table, Allowance::new(allowance)))
-        .map_err(Located::InText)?;
+        .and_then(|steps| value_of(&steps, &tables, Allowance::new(allowance)))
+        .map_err(|refused| refused.within(Slice::Text))?;
     Ok(Value {
         value,
         end: text.len(),
@@ -143,14 +143,14 @@ impl<'t> Parser<'t> {
 }
 
 /// Takes the steps from the left; the first that cannot be taken refuses the whole.
-fn value_of(steps: &[Step], table: &Table, mut allowance: Allowance) -> Result<i32, Refused> {
+fn value_of(steps: &[Step], tables: &Tables, mut allowance: Allowance) -> Result<i32, Refused> {
     let mut values = Vec::new();
     let pop = |values: &mut Vec<i32>| values.pop().expect("operands stand before operators");
     for step in steps {
         let value = match *step {
             Step::Number(pattern) => pattern as i32,
             Step::Name { name, place } => {
-                named(name, table, &mut allowance).map_err(|refusal| refusal.at(place))?
+                named(name, tables, &mut allowance).map_err(|refusal| refusal.at(place))?
             }
             Step::Unary(operator) => unary(operator, pop(&mut values)),
             Step::Binary { operator, place } => {
@@ -165,9 +165,9 @@ fn value_of(steps: &[Step], table: &Table, mut allowance: Allowance) -> Result<i
 }
 
 /// The value of a name; the order is 10, 17, 12.
-fn named(name: &[u8], table: &Table, allowance: &mut Allowance) -> Result<i32, Refusal> {
-    let record = table.look_up(name).ok_or(Refusal::UnknownName)?;
-    let value = record.integer().ok_or(Refusal::NotInteger)?;
+fn named(name: &[u8], tables: &Tables, allowance: &mut Allowance) -> Result<i32, Refusal> {
+    let found = tables.look_up(name).ok_or(Refusal::UnknownName)?;
+    let value = found.record.integer().ok_or(Refusal::NotInteger)?;
     allowance.spend()?;
     Ok(value)
 }
@@ -224,16 +224,28 @@ fn shifted(operator: Operator, left: i32, amount: u32) -> i32 {
 mod tests {
     use super::*;
 
-    /// An integer `i` of 7, a string `s` and a macro `m`.
-    const TABLE: &[u8] = b"VR\x01\x01\x04i\x07\0\0\0VR\0\x01\0sVR\x02\x01\0m";
+    /// The farm's integer `i` of 7 and its string `s`.
+    const FARM: &[u8] = b"VR\x01\x01\x04i\x07\0\0\0VR\0\x01\0s";
+    /// The house's macro `m`, its integer `j` of 5; a string and an integer that the farm hides.
+    const HOUSE: &[u8] =
+        b"VR\x02\x01\0mVR\x01\x01\x04j\x05\0\0\0VR\0\x01\0IVR\x01\x01\x04S\x03\0\0\0";
 
-    /// The answer as a short text: a value "to" its end, or a refusal "at" its place.
+    fn over(text: &[u8], farm: &[u8], house: &[u8], allowance: u32) -> Result<Value, Located> {
+        let tables = LentTables {
+            farm: farm.to_vec(),
+            house: house.to_vec(),
+        };
+        evaluate(text, &tables, allowance)
+    }
+
+    /// The answer as a short text: a value "to" its end, or a refusal "at" its place in the text.
     fn shown(text: &str, allowance: u32) -> String {
-        match evaluate(text.as_bytes(), TABLE, allowance) {
+        match over(text.as_bytes(), FARM, HOUSE, allowance) {
             Ok(Value { value, end }) => format!("{value} to {end}"),
-            Err(Located::InText(refused)) => {
-                format!("no {} at {}", refused.refusal.number(), refused.place)
-            }
+            Err(Located {
+                refused,
+                slice: Slice::Text,
+            }) => format!("no {} at {}", refused.refusal.number(), refused.place),
             Err(other) => format!("{other:?}"),
         }
     }
@@ -243,7 +255,7 @@ mod tests {
     }
 
     fn value(text: &str) -> i32 {
-        evaluate(text.as_bytes(), TABLE, 1_024)
+        over(text.as_bytes(), FARM, HOUSE, 1_024)
             .unwrap_or_else(|refused| panic!("{text}: {refused:?}"))
             .value
     }
@@ -306,6 +318,34 @@ mod tests {
         let sum = |count| vec!["i"; count].join("+");
         assert_eq!(value(&sum(1_024)), 7 * 1_024);
         assert_eq!(shown(&sum(1_025), u32::MAX), "no 12 at 2048");
+    }
+
+    #[test]
+    fn names_of_both_tables_spend_one_look_up_each() {
+        assert_eq!(shown("i+J", 2), "12 to 3");
+        assert_eq!(shown("i+J", 1), "no 12 at 2");
+        assert_eq!(shown("j", 1), "5 to 1");
+        assert_eq!(shown("j", 0), "no 12 at 0");
+        assert_eq!(shown("j+s", 1), "no 17 at 2");
+        assert_eq!(shown("j+q", 1), "no 10 at 2");
+        let only_in_house = over(b"i", b"", HOUSE, 1).expect_err("a refusal");
+        assert_eq!(only_in_house, Refusal::NotInteger.at(0).within(Slice::Text));
+        assert_eq!(over(b"s", b"", HOUSE, 1).expect("a value").value, 3);
+    }
+
+    #[test]
+    fn both_tables_are_judged_before_the_syntax() {
+        let cut = |table: &[u8]| table[..table.len() - 1].to_vec();
+        let (farm, house) = (cut(FARM), cut(HOUSE));
+        let at = |place| Refusal::BadTable.at(place);
+        let refused =
+            |farm: &[u8], house: &[u8]| over(b"(", farm, house, 0).expect_err("a refusal");
+        assert_eq!(refused(&farm, &house), at(10).within(Slice::Farm));
+        assert_eq!(refused(FARM, &house), at(22).within(Slice::House));
+        assert_eq!(
+            refused(FARM, HOUSE),
+            Refusal::BadExpression.at(1).within(Slice::Text)
+        );
     }
 
     #[test]

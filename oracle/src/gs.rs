@@ -1,8 +1,8 @@
 //! Chapter "GS strings": translation of a text with codes, quotes and references.
 
 use crate::reader;
-use crate::refusal::{Located, Refusal, Refused};
-use crate::variables::{is_name_byte, table_for, Kind, Table};
+use crate::refusal::{Located, Refusal, Refused, Slice};
+use crate::variables::{is_name_byte, tables_for, Kind, LentTables, Tables};
 
 const QUOTE: u8 = b'"';
 const TOP_BIT: u8 = 128;
@@ -70,21 +70,22 @@ impl From<Located> for Untranslated {
 /// Translates a text: 18, 13, then what the reading meets, and 1 last.
 pub fn translate(
     text: &[u8],
-    table: &[u8],
+    tables: &LentTables,
     flags: Flags,
     allowance: u32,
     room: usize,
 ) -> Result<Translated, Untranslated> {
     let mut translator = Translator {
-        table: table_for(text, table)?,
+        tables: tables_for(text, tables)?,
         allowance: Allowance::new(allowance),
         output: Vec::new(),
     };
-    let end = translator.lent(text, flags, 0).map_err(Located::InText)?;
+    let in_text = |refused: Refused| refused.within(Slice::Text);
+    let end = translator.lent(text, flags, 0).map_err(in_text)?;
     let output = translator.output;
     let need = output.len();
     if need > room {
-        let refused = Located::InText(Refusal::NoRoom.at(0));
+        let refused = in_text(Refusal::NoRoom.at(0));
         return Err(Untranslated { refused, need });
     }
     Ok(Translated {
@@ -115,7 +116,7 @@ struct Text<'t> {
 
 /// What the outer text and all macros under it share.
 struct Translator<'a> {
-    table: Table<'a>,
+    tables: Tables<'a>,
     allowance: Allowance,
     output: Vec<u8>,
 }
@@ -200,7 +201,8 @@ impl Translator<'_> {
 
     /// A name is refused in the order 10, 11, 12, and spends before a macro's value is read.
     fn name(&mut self, name: &[u8], depth: usize) -> Result<(), Refusal> {
-        let record = self.table.look_up(name).ok_or(Refusal::UnknownName)?;
+        let found = self.tables.look_up(name).ok_or(Refusal::UnknownName)?;
+        let record = found.record;
         if record.kind == Kind::Macro && depth == DEEPEST {
             return Err(Refusal::TooDeep);
         }
@@ -282,16 +284,35 @@ mod tests {
         [&header, name.as_bytes(), value].concat()
     }
 
-    /// The answer as a short text: the output "to" its end, or a refusal "at" its place.
-    fn shown(text: &str, table: &[u8], flags: u32, allowance: u32) -> String {
-        match translate(text.as_bytes(), table, Flags(flags), allowance, ROOM) {
+    /// The answer as a short text: the output "to" its end, or a refusal "at" its text's place.
+    fn over(text: &str, tables: &LentTables, flags: u32, allowance: u32) -> String {
+        match translate(text.as_bytes(), tables, Flags(flags), allowance, ROOM) {
             Ok(done) => format!("{} to {}", done.output.escape_ascii(), done.end),
             Err(Untranslated {
-                refused: Located::InText(refused),
+                refused:
+                    Located {
+                        refused,
+                        slice: Slice::Text,
+                    },
                 ..
             }) => format!("no {} at {}", refused.refusal.number(), refused.place),
             Err(other) => format!("{other:?}"),
         }
+    }
+
+    fn lent(farm: &[u8], house: &[u8]) -> LentTables {
+        LentTables {
+            farm: farm.to_vec(),
+            house: house.to_vec(),
+        }
+    }
+
+    /// The answer over one table, which is the same whoever's table it is.
+    fn shown(text: &str, table: &[u8], flags: u32, allowance: u32) -> String {
+        let of_house = over(text, &lent(b"", table), flags, allowance);
+        let of_farm = over(text, &lent(table, b""), flags, allowance);
+        assert_eq!(of_farm, of_house);
+        of_house
     }
 
     fn plain(text: &str) -> String {
@@ -317,7 +338,8 @@ mod tests {
             end: 0,
             free: 0,
         };
-        assert_eq!(translate(b"", b"", Flags::NONE, 0, 0), Ok(nothing));
+        let none = LentTables::default();
+        assert_eq!(translate(b"", &none, Flags::NONE, 0, 0), Ok(nothing));
     }
 
     #[test]
@@ -443,11 +465,77 @@ mod tests {
 
     #[test]
     fn no_room_comes_last() {
-        let short = translate(b"abc<nope>", b"", Flags::NONE, 0, 0).expect_err("a refusal");
-        let unknown = Located::InText(Refusal::UnknownName.at(3));
+        let none = LentTables::default();
+        let short = translate(b"abc<nope>", &none, Flags::NONE, 0, 0).expect_err("a refusal");
+        let unknown = Refusal::UnknownName.at(3).within(Slice::Text);
         assert_eq!(short, Untranslated::from(unknown));
-        let short = translate(b"abc", b"", Flags::NONE, 0, 2).expect_err("a refusal");
-        let refused = Located::InText(Refusal::NoRoom.at(0));
+        let short = translate(b"abc", &none, Flags::NONE, 0, 2).expect_err("a refusal");
+        let refused = Refusal::NoRoom.at(0).within(Slice::Text);
         assert_eq!(short, Untranslated { refused, need: 3 });
+    }
+
+    #[test]
+    fn macros_of_either_table_name_records_of_either() {
+        let farm = [
+            record(2, "m", b"f<x><w><n>"),
+            record(0, "x", b"farm"),
+            record(0, "n", b""),
+        ]
+        .concat();
+        let house = [
+            record(0, "X", b"house"),
+            record(2, "w", b"h<x>"),
+            record(0, "m", b"hidden"),
+            record(1, "N", &[1, 0, 0, 0]),
+        ]
+        .concat();
+        let both = lent(&farm, &house);
+        assert_eq!(over("<M>", &both, 0, 5), "ffarmhfarm to 3");
+        assert_eq!(over("<M>", &both, 0, 4), "no 12 at 0");
+        assert_eq!(
+            over("<m><w>", &lent(b"", &house), 0, 3),
+            "hiddenhhouse to 6"
+        );
+        assert_eq!(over("<m>", &lent(&farm, b""), 0, 9), "no 10 at 0");
+    }
+
+    #[test]
+    fn a_look_up_is_spent_once_wherever_it_ends() {
+        let both = lent(&record(0, "f", b"F"), &record(0, "h", b"H"));
+        assert_eq!(over("<h><f><h>", &both, 0, 3), "HFH to 9");
+        assert_eq!(over("<h><f><h>", &both, 0, 2), "no 12 at 6");
+        assert_eq!(over("<h>", &both, 0, 0), "no 12 at 0");
+        assert_eq!(over("<h><q>", &both, 0, 1), "no 10 at 3");
+        assert_eq!(over("<q>", &both, 0, 0), "no 10 at 0");
+    }
+
+    #[test]
+    fn a_chain_through_both_tables_goes_too_deep_as_in_one() {
+        let chain = |last: &[u8]| {
+            let mut halves = [record(0, "s", b"!"), Vec::new()];
+            for index in 1..=16 {
+                let next = format!("<m{}>", index + 1).into_bytes();
+                let value = if index == 16 { last } else { &next };
+                halves[index % 2].extend(record(2, &format!("m{index}"), value));
+            }
+            lent(&halves[0], &halves[1])
+        };
+        assert_eq!(over("<m1>", &chain(b"<s>"), 0, 17), "! to 4");
+        assert_eq!(over("<m1>", &chain(b"<s>"), 0, 16), "no 12 at 0");
+        assert_eq!(over("<m1>", &chain(b"<m1>"), 0, 1_024), "no 11 at 0");
+    }
+
+    #[test]
+    fn a_bad_table_is_refused_under_every_text() {
+        let good = record(0, "a", b"xyz");
+        let bad = [&good[..], b"VR"].concat();
+        let at = |place, slice| Untranslated::from(Refusal::BadTable.at(place).within(slice));
+        let refused = |farm: &[u8], house: &[u8]| {
+            translate(b"|", &lent(farm, house), Flags::NONE, 0, 0).expect_err("a refusal")
+        };
+        assert_eq!(refused(&bad, &good), at(9, Slice::Farm));
+        assert_eq!(refused(&good, &bad), at(9, Slice::House));
+        assert_eq!(refused(&bad, b"V"), at(9, Slice::Farm));
+        assert_eq!(refused(b"", b"V"), at(0, Slice::House));
     }
 }

@@ -1,5 +1,6 @@
 //! The line format: a case read from its line and written back.
 
+use crate::variables::LentTables;
 use std::fmt::{self, Display, Formatter};
 use std::str::{FromStr, Split};
 
@@ -20,22 +21,25 @@ pub enum Case {
         table: Vec<u8>,
     },
     Look {
-        table: Vec<u8>,
+        tables: LentTables,
         name: Vec<u8>,
     },
     Trans {
         text: Vec<u8>,
-        table: Vec<u8>,
+        tables: LentTables,
         flags: u32,
         allowance: u32,
         room: usize,
     },
     Eval {
         text: Vec<u8>,
-        table: Vec<u8>,
+        tables: LentTables,
         allowance: u32,
     },
 }
+
+/// What stands in a translation's line where an index of the house table could be given.
+const NO_INDEX: &str = "x";
 
 /// A byte string as the format shows it: lower-case hex, the empty one as a dash.
 pub fn hex(bytes: &[u8]) -> String {
@@ -60,24 +64,35 @@ impl Display for Case {
                 write!(out, "read {} {} {limit}", hex(text), u8::from(*whole))
             }
             Case::Table { table } => write!(out, "table {}", hex(table)),
-            Case::Look { table, name } => write!(out, "look {} {}", hex(table), hex(name)),
+            Case::Look { tables, name } => {
+                write!(out, "look {} {}", both_in_hex(tables), hex(name))
+            }
             Case::Trans {
                 text,
-                table,
+                tables,
                 flags,
                 allowance,
                 room,
             } => {
-                let (text, table) = (hex(text), hex(table));
-                write!(out, "trans {text} {table} {flags} {allowance} {room}")
+                let (text, tables) = (hex(text), both_in_hex(tables));
+                let limits = format!("{flags} {allowance} {room}");
+                write!(out, "trans {text} {tables} {NO_INDEX} {limits}")
             }
             Case::Eval {
                 text,
-                table,
+                tables,
                 allowance,
-            } => write!(out, "eval {} {} {allowance}", hex(text), hex(table)),
+            } => {
+                let (text, tables) = (hex(text), both_in_hex(tables));
+                write!(out, "eval {text} {tables} {allowance}")
+            }
         }
     }
+}
+
+/// The two fields of the tables, the farm's first.
+fn both_in_hex(tables: &LentTables) -> String {
+    format!("{} {}", hex(&tables.farm), hex(&tables.house))
 }
 
 /// Reads a case from its line, or says what is wrong with it.
@@ -98,19 +113,13 @@ pub fn parse(line: &str) -> Result<Case, String> {
             table: fields.bytes("table")?,
         },
         "look" => Case::Look {
-            table: fields.bytes("table")?,
+            tables: fields.tables()?,
             name: fields.bytes("name")?,
         },
-        "trans" => Case::Trans {
-            text: fields.bytes("text")?,
-            table: fields.bytes("table")?,
-            flags: fields.number("flags")?,
-            allowance: fields.number("allowance")?,
-            room: fields.number("room")?,
-        },
+        "trans" => fields.trans()?,
         "eval" => Case::Eval {
             text: fields.bytes("text")?,
-            table: fields.bytes("table")?,
+            tables: fields.tables()?,
             allowance: fields.number("allowance")?,
         },
         other => return Err(format!("unknown operation {other:?}")),
@@ -135,6 +144,27 @@ impl<'l> Fields<'l> {
     fn bytes(&mut self, what: &str) -> Result<Vec<u8>, String> {
         let field = self.next(what)?;
         bytes(field).ok_or_else(|| format!("bad {what}"))
+    }
+
+    fn trans(&mut self) -> Result<Case, String> {
+        let (text, tables) = (self.bytes("text")?, self.tables()?);
+        if self.next("index")? != NO_INDEX {
+            return Err("bad index".to_owned());
+        }
+        Ok(Case::Trans {
+            text,
+            tables,
+            flags: self.number("flags")?,
+            allowance: self.number("allowance")?,
+            room: self.number("room")?,
+        })
+    }
+
+    fn tables(&mut self) -> Result<LentTables, String> {
+        Ok(LentTables {
+            farm: self.bytes("farm's table")?,
+            house: self.bytes("house table")?,
+        })
     }
 
     fn whole(&mut self) -> Result<bool, String> {
@@ -192,9 +222,14 @@ mod tests {
     #[test]
     fn a_case_is_written_as_it_was_read() {
         for line in [
-            "conv 216 1048576 8", "read 325f31313032 1 -", "read - 0 4294967295",
-            "table 56520001016178", "look 56520001016178 -",
-            "trans 3c413e62 56520001016178 4294967295 1 2", "eval 00ff - 4294967295",
+            "conv 216 1048576 8",
+            "read 325f31313032 1 -",
+            "read - 0 4294967295",
+            "table 56520001016178",
+            "look 56520001016178 - -",
+            "look - 56520001016178 41",
+            "trans 3c413e62 5652 56520001016178 x 4294967295 1 2",
+            "eval 00ff - 01 4294967295",
         ] {
             assert_eq!(parse(line).expect(line).to_string(), line);
         }
@@ -205,7 +240,9 @@ mod tests {
         for line in [
             "", "conv", "conv 216 1 ", "conv 216 4294967296 8", "conv 216 +1 8", "conv 216  1 8",
             "conv 216 1 8 9", "read 3 1 -", "read  1 -", "read 3A 1 -", "read 30 2 -",
-            "read 30 1 x", "Table -", "table -\r",
+            "read 30 1 x", "Table -", "table -\r", "table - -", "look - 41", "look - - - -",
+            "trans - - 0 0 0", "trans - - - 0 0 0", "trans - - - - 0 0 0", "trans - - - X 0 0 0",
+            "trans - - - 00 0 0 0", "trans - - x 0 0 0", "eval 31 - 0", "eval 31 - - x 0",
         ] {
             assert!(parse(line).is_err(), "{line:?}");
         }

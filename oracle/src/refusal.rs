@@ -47,11 +47,29 @@ pub struct Refused {
     pub place: usize,
 }
 
-/// A refusal of an operation that is lent both a text and a table, whose places are counted apart.
+impl Refused {
+    /// This refusal of an operation that is lent more than one slice.
+    pub fn within(self, slice: Slice) -> Located {
+        Located {
+            refused: self,
+            slice,
+        }
+    }
+}
+
+/// The slices that one operation is lent; places in them are counted apart.
 #[derive(Clone, Copy, Debug, PartialEq, Eq)]
-pub enum Located {
-    InText(Refused),
-    InTable(Refused),
+pub enum Slice {
+    Text,
+    Farm,
+    House,
+}
+
+/// A refusal that says in which slice its place is counted.
+#[derive(Clone, Copy, Debug, PartialEq, Eq)]
+pub struct Located {
+    pub refused: Refused,
+    pub slice: Slice,
 }
 
 /// Refuses a slice that is too long, whatever stands in it.

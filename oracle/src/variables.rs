@@ -1,6 +1,6 @@
-//! Chapter "Variables": a table of records, and names looked up in it.
+//! Chapter "Variables": a table of records, and what a name means over the farm's and the house's.
 
-use crate::refusal::{check_length, Located, Refusal, Refused};
+use crate::refusal::{check_length, Located, Refusal, Refused, Slice};
 
 /// The two bytes that each record stands behind.
 pub const MARK: [u8; 2] = [86, 82];
@@ -113,10 +113,54 @@ pub fn is_name_byte(byte: u8) -> bool {
     matches!(byte, 33..=126) && !matches!(byte, b'"' | b'<' | b'>')
 }
 
-/// What every operation on a text and a table begins with: 18 (text, table), then 13.
-pub fn table_for<'a>(text: &[u8], table: &'a [u8]) -> Result<Table<'a>, Located> {
-    check_length(text).map_err(Located::InText)?;
-    Table::read(table).map_err(Located::InTable)
+/// The bytes of the two tables that an operation is lent.
+#[derive(Clone, Debug, Default, PartialEq, Eq)]
+pub struct LentTables {
+    pub farm: Vec<u8>,
+    pub house: Vec<u8>,
+}
+
+/// Two good tables. A name may stand in both.
+#[derive(Debug, PartialEq, Eq)]
+pub struct Tables<'a> {
+    farm: Table<'a>,
+    house: Table<'a>,
+}
+
+/// A record, with the table that its place is counted in.
+#[derive(Clone, Copy, Debug, PartialEq, Eq)]
+pub struct Found<'a> {
+    pub slice: Slice,
+    pub record: Record<'a>,
+}
+
+impl<'a> Tables<'a> {
+    /// Reads both tables: 18 for the farm's, for the house's; then 13 in that order.
+    pub fn read(lent: &'a LentTables) -> Result<Self, Located> {
+        let in_farm = |refused: Refused| refused.within(Slice::Farm);
+        let in_house = |refused: Refused| refused.within(Slice::House);
+        check_length(&lent.farm).map_err(in_farm)?;
+        check_length(&lent.house).map_err(in_house)?;
+        Ok(Tables {
+            farm: Table::read(&lent.farm).map_err(in_farm)?,
+            house: Table::read(&lent.house).map_err(in_house)?,
+        })
+    }
+
+    /// What a name means: the farm's record, whatever the house has of that name, or the house's.
+    pub fn look_up(&self, name: &[u8]) -> Option<Found<'a>> {
+        let found = |table: &Table<'a>, slice| {
+            let record = table.look_up(name)?;
+            Some(Found { slice, record })
+        };
+        found(&self.farm, Slice::Farm).or_else(|| found(&self.house, Slice::House))
+    }
+}
+
+/// What every operation on a text begins with: 18 for the text, then the two tables.
+pub fn tables_for<'a>(text: &[u8], lent: &'a LentTables) -> Result<Tables<'a>, Located> {
+    check_length(text).map_err(|refused| refused.within(Slice::Text))?;
+    Tables::read(lent)
 }
 
 #[cfg(test)]
@@ -206,13 +250,70 @@ mod tests {
         assert_eq!(counted(&[&full[..], b"V"].concat()), Err(full.len()));
     }
 
+    fn lent(farm: &[u8], house: &[u8]) -> LentTables {
+        LentTables {
+            farm: farm.to_vec(),
+            house: house.to_vec(),
+        }
+    }
+
     #[test]
-    fn the_text_is_judged_before_the_table() {
+    fn lengths_are_judged_before_records_and_the_farm_before_the_house() {
         let long = vec![0; 65_536];
+        let short = record(0, b"a", b"xyz");
+        let bad = [&short[..], b"V"].concat();
+        let other_bad = [&short[..], &record(0, b"b", b""), b"V"].concat();
         let over = Refusal::OverLong.at(0);
-        assert_eq!(table_for(&long, &long), Err(Located::InText(over)));
-        assert_eq!(table_for(b"", &long), Err(Located::InTable(over)));
-        let bad = Refusal::BadTable.at(0);
-        assert_eq!(table_for(b"", &long[1..]), Err(Located::InTable(bad)));
+        let refused = |text: &[u8], farm: &[u8], house: &[u8]| {
+            tables_for(text, &lent(farm, house)).expect_err("a refusal")
+        };
+        assert_eq!(refused(&long, &long, &long), over.within(Slice::Text));
+        assert_eq!(refused(&long, &bad, &bad), over.within(Slice::Text));
+        assert_eq!(refused(b"", &long, &long), over.within(Slice::Farm));
+        assert_eq!(refused(b"", &long, &bad), over.within(Slice::Farm));
+        assert_eq!(refused(b"", &bad, &long), over.within(Slice::House));
+        assert_eq!(refused(b"", b"", &long), over.within(Slice::House));
+        let at = |place| Refusal::BadTable.at(place);
+        assert_eq!(refused(b"", &bad, &other_bad), at(9).within(Slice::Farm));
+        assert_eq!(refused(b"", &other_bad, &bad), at(15).within(Slice::Farm));
+        assert_eq!(refused(b"", &bad, &short), at(9).within(Slice::Farm));
+        assert_eq!(
+            refused(b"", &short, &other_bad),
+            at(15).within(Slice::House)
+        );
+    }
+
+    #[test]
+    fn the_farm_hides_the_house_whatever_the_kinds() {
+        let value = |kind| if kind == 1 { &b"1234"[..] } else { b"" };
+        for farm_kind in 0..3 {
+            for house_kind in 0..3 {
+                let farm = record(farm_kind, b"aB", value(farm_kind));
+                let other = record(0, b"other", b"x");
+                let house = [other, record(house_kind, b"Ab", value(house_kind))].concat();
+                let both = lent(&farm, &house);
+                let tables = Tables::read(&both).expect("good tables");
+                let found = tables.look_up(b"AB").expect("a known name");
+                assert_eq!((found.slice, found.record.place), (Slice::Farm, 0));
+                assert_eq!(found.record.kind as u8, farm_kind);
+                let alone = lent(b"", &house);
+                let tables = Tables::read(&alone).expect("good tables");
+                let found = tables.look_up(b"ab").expect("a known name");
+                assert_eq!((found.slice, found.record.place), (Slice::House, 11));
+                assert_eq!(found.record.kind as u8, house_kind);
+                assert_eq!(tables.look_up(b"a"), None);
+            }
+        }
+    }
+
+    #[test]
+    fn each_table_has_its_own_256_records() {
+        let (full, over) = (numbered(256), numbered(257));
+        assert!(Tables::read(&lent(&full, &full)).is_ok());
+        let bad = Refusal::BadTable.at(full.len());
+        let refused = |farm, house| Tables::read(&lent(farm, house)).map(|_| ());
+        assert_eq!(refused(&over, &full), Err(bad.within(Slice::Farm)));
+        assert_eq!(refused(&full, &over), Err(bad.within(Slice::House)));
+        assert_eq!(refused(&over, &over), Err(bad.within(Slice::Farm)));
     }
 }

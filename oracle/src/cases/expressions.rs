@@ -5,30 +5,33 @@ mod depths;
 mod growth;
 mod lengths;
 mod operators;
+mod owners;
 mod pages;
 mod refusals;
 mod soups;
 mod texts;
 mod trees;
 
-use super::tables::{table, Entry};
+use super::pairs::Pair;
 use crate::lines::Case;
 use crate::random::Random;
 
-fn eval(text: &[u8], entries: &[Entry], allowance: u32) -> Case {
+fn eval(text: &[u8], pair: &Pair, allowance: u32) -> Case {
     Case::Eval {
         text: text.to_vec(),
-        table: table(entries),
+        tables: pair.lent(),
         allowance,
     }
 }
 
-/// The telling texts, the depths, the faults in their order, the lengths; last every operator.
+/// The telling texts, the depths, the faults in their order, the two tables' names, the lengths;
+/// last every operator.
 pub fn fixed() -> Vec<Case> {
     [
         texts::fixed(),
         depths::fixed(),
         refusals::fixed(),
+        owners::fixed(),
         lengths::fixed(),
         operators::fixed(),
     ]

@@ -2,11 +2,12 @@
 
 use super::forms::{bad_base, in_mixed_case, no_digit, number, soup, spaces, too_big};
 use super::limits::{allowance, least_allowance, room};
-use super::tables::{damaged, numbered, of_length, one_of_each_kind, random_entries, table, Entry};
+use super::pairs::{bad_table, ill_pairs, over_long_table, random_pair, OneName, Pair};
+use super::tables::{numbered, numbered_from, one_of_each_kind, Entry};
 use crate::gs::{translate, Flags};
 use crate::lines::Case;
 use crate::random::Random;
-use crate::variables::Kind;
+use crate::variables::{Kind, LentTables};
 
 const SPACE: u32 = Flags::SPACE_ENDS;
 const BAR: u32 = Flags::BAR_IS_ORDINARY;
@@ -34,32 +35,57 @@ const SHARP: [&[u8]; 52] = [
     b"<-1>", b"<65 >", b"<|><a|>", b"ab<nope><4294967296>", b"|1<", b"<|1",
 ];
 
-fn trans(text: &[u8], entries: &[Entry], flags: u32, allowance: u32, room: usize) -> Case {
+fn trans(text: &[u8], pair: &Pair, flags: u32, allowance: u32, room: usize) -> Case {
     Case::Trans {
         text: text.to_vec(),
-        table: table(entries),
+        tables: pair.lent(),
         flags,
         allowance,
         room,
     }
 }
 
-/// The examples, the sharp texts, every code, the names, the depths, the allowances, long texts.
+/// A text without names, over two empty tables.
+fn nameless(text: &[u8], flags: u32, room: usize) -> Case {
+    trans(text, &Pair::default(), flags, 0, room)
+}
+
+/// A text with few look-ups over tables that are perhaps bad or over-long.
+fn over(text: &[u8], farm: &[u8], house: &[u8], room: usize) -> Case {
+    let tables = LentTables {
+        farm: farm.to_vec(),
+        house: house.to_vec(),
+    };
+    Case::Trans {
+        text: text.to_vec(),
+        tables,
+        flags: 0,
+        allowance: 1,
+        room,
+    }
+}
+
+/// The examples, the sharp texts, every code, the names, the depths, the allowances, the tables,
+/// long texts.
 pub fn fixed() -> Vec<Case> {
     let mut cases = examples();
     for text in SHARP {
-        cases.push(trans(text, &[], 0, 0, PLENTY));
+        cases.push(nameless(text, 0, PLENTY));
     }
     for text in SHARP_UNDER_ALL_FLAGS {
         for three_bits in 0..8 {
-            cases.push(trans(text, &[], three_bits << 29, 0, PLENTY));
+            cases.push(nameless(text, three_bits << 29, PLENTY));
         }
     }
     cases.extend(codes());
     cases.extend(named());
+    cases.extend(one_name_everywhere());
+    cases.extend(macros_across());
     cases.extend(depths());
     cases.extend(allowances());
     cases.extend(rooms());
+    cases.extend(in_ill_pairs());
+    cases.extend(in_full_tables());
     cases.extend(long());
     cases
 }
@@ -67,16 +93,22 @@ pub fn fixed() -> Vec<Case> {
 /// P10 to P13 and the examples that are not marked.
 fn examples() -> Vec<Case> {
     let itself = [Entry::macro_of("a", b"<a>")];
+    let p13 = [Entry::string("a", b"x")];
     let mut cases = vec![
-        trans(b"|!|@", &[], 0, 0, 1),
-        trans(b"\"a\"\"b\"", &[], 0, 0, 3),
-        trans(b"<321>", &[], 0, 0, 1),
-        trans(b"<A>b", &[Entry::string("a", b"x")], 0, 1, 2),
-        trans(b"", &[], 0, 0, 0),
-        trans(b"a<\n", &[], 0, 0, 65_535),
+        nameless(b"|!|@", 0, 1),
+        nameless(b"\"a\"\"b\"", 0, 3),
+        nameless(b"<321>", 0, 1),
+        trans(b"<A>b", &Pair::in_house(&p13), 0, 1, 2),
+        trans(b"<A>b", &Pair::in_farm(&p13), 0, 1, 2),
+        nameless(b"", 0, 0),
+        nameless(b"a<\n", 0, 65_535),
     ];
-    for allowance in [0, 1, 3, 15, 16, 17, 1_024, 1_025, u32::MAX] {
-        cases.push(trans(b"<a>", &itself, 0, allowance, PLENTY));
+    // The farm's macro never leads to what it hides.
+    let hiding = Pair::of(&itself, &p13);
+    for pair in [Pair::in_house(&itself), Pair::in_farm(&itself), hiding] {
+        for allowance in [0, 1, 3, 15, 16, 17, 1_024, 1_025, u32::MAX] {
+            cases.push(trans(b"<a>", &pair, 0, allowance, PLENTY));
+        }
     }
     cases
 }
@@ -91,27 +123,15 @@ fn codes() -> Vec<Case> {
         .filter(|byte| !b"\n\r\"<|".contains(byte))
         .collect();
     let mut cases = vec![
-        trans(&each_behind(b"|", CODES), &[], 0, 0, PLENTY),
-        trans(&each_behind(b"|!|", CODES), &[], 0, 0, PLENTY),
-        trans(&each_behind(b"|!", &ordinary), &[], 0, 0, PLENTY),
-        trans(&ordinary[1..], &[], 0, 0, PLENTY),
+        nameless(&each_behind(b"|", CODES), 0, PLENTY),
+        nameless(&each_behind(b"|!|", CODES), 0, PLENTY),
+        nameless(&each_behind(b"|!", &ordinary), 0, PLENTY),
+        nameless(&ordinary[1..], 0, PLENTY),
     ];
     for byte in (32..=128).chain([1, 9, 31, 160, 255]) {
         if !CODES.contains(&byte) {
-            cases.push(trans(
-                &[b"x|", &[byte, b'A'][..]].concat(),
-                &[],
-                0,
-                0,
-                PLENTY,
-            ));
-            cases.push(trans(
-                &[b"x|!|", &[byte][..]].concat(),
-                &[],
-                QUOTES,
-                0,
-                PLENTY,
-            ));
+            cases.push(nameless(&[b'x', b'|', byte, b'A'], 0, PLENTY));
+            cases.push(nameless(&[b'x', b'|', b'!', b'|', byte], QUOTES, PLENTY));
         }
     }
     cases
@@ -148,12 +168,72 @@ fn named() -> Vec<Case> {
         b"<over><4294967296>", b"<123>", b"<12X>", b"<99999999999x>", b"<4294967296_1>", b"<a|>",
         b"<&>", b"<n <n>", b"<nnnnnnnnnnnnnnnnnnnnnnnnnnnnnnnnn>",
     ];
-    let entries = telling_entries();
+    let in_turn = Pair::in_turn(&telling_entries());
+    let swapped = in_turn.swapped();
+    let in_house = Pair::in_house(&telling_entries());
     let mut cases = Vec::new();
     for text in texts {
-        cases.push(trans(text, &entries, 0, 1, PLENTY));
-        cases.push(trans(text, &entries, SPACE | BAR | QUOTES, 9, PLENTY));
-        cases.push(trans(text, &entries, 0, 0, 0));
+        cases.push(trans(text, &in_turn, 0, 1, PLENTY));
+        cases.push(trans(text, &swapped, SPACE | BAR | QUOTES, 9, PLENTY));
+        cases.push(trans(text, &in_house, 0, 0, 0));
+    }
+    cases
+}
+
+/// A name of every kind or none in either table, with no look-up, with one, with one for a macro.
+fn one_name_everywhere() -> Vec<Case> {
+    let mut cases = Vec::new();
+    for one_name in OneName::everywhere() {
+        let pair = one_name.pair();
+        for allowance in 0..=2 {
+            cases.push(trans(b"a<vv>", &pair, 0, allowance, PLENTY));
+        }
+        cases.push(trans(b"<VV><w><Vv>", &pair, 0, 9, PLENTY));
+    }
+    cases
+}
+
+/// A farm's and a house's records that name each other, hide each other and are hidden.
+fn crossing_entries() -> Pair {
+    let farm = [
+        Entry::macro_of("m", b"[<h>]"),
+        Entry::string("x", b"farm"),
+        Entry::macro_of("self", b"<self>"),
+        Entry::macro_of("mm", b"<hm><x>"),
+        Entry::string("f", b"F"),
+        Entry::integer("n", 5),
+        Entry::string("e", b""),
+    ];
+    let house = [
+        Entry::string("h", b"H"),
+        Entry::macro_of("hm", b"(<f><h>)"),
+        Entry::string("X", b"house"),
+        Entry::macro_of("hx", b"<x>"),
+        Entry::string("SELF", b"hidden"),
+        Entry::macro_of("N", b"|1"),
+        Entry::macro_of("k", b"<n>"),
+        Entry::string("E", b"full"),
+        Entry::macro_of("M", b"<nope>"),
+    ];
+    Pair::of(&farm, &house)
+}
+
+/// Macros of either table with names of either, and the look-ups that they spend.
+fn macros_across() -> Vec<Case> {
+    let texts: [&[u8]; 12] = [
+        b"<m>", b"<mm>", b"<hx>", b"<self>", b"<n>", b"<k>", b"<e>", b"<h><f>", b"<e><nope>",
+        b"<h><nope>", b"<m><hx><k>", b"<nope>",
+    ];
+    let pair = crossing_entries();
+    let swapped = pair.swapped();
+    let mut cases = Vec::new();
+    for text in texts {
+        for allowance in [0, 1, 2, 3, 4, 5, 6, 1_024] {
+            cases.push(trans(text, &pair, 0, allowance, PLENTY));
+        }
+        for allowance in [0, 2, 1_024] {
+            cases.push(trans(text, &swapped, 0, allowance, PLENTY));
+        }
     }
     cases
 }
@@ -170,7 +250,7 @@ fn chain(length: usize, last: &[u8]) -> Vec<Entry> {
     entries
 }
 
-/// Macros around depth 16, what stands in the deepest one, and the look-ups they spend.
+/// Macros of both tables around depth 16, what the deepest one holds, and the look-ups they spend.
 fn depths() -> Vec<Case> {
     let lasts: [&[u8]; 6] = [b"x", b"<s>", b"<n>", b"<65>", b"<m1>", b"<nope>"];
     let mut cases = Vec::new();
@@ -179,9 +259,14 @@ fn depths() -> Vec<Case> {
             let mut entries = chain(length, last);
             entries.push(Entry::string("s", b"deep"));
             entries.push(Entry::integer("n", 5));
+            let in_turn = Pair::in_turn(&entries);
             let spent = length as u32;
             for allowance in [spent - 1, spent, spent + 1, u32::MAX] {
-                cases.push(trans(b"ab<m1>", &entries, 0, allowance, PLENTY));
+                cases.push(trans(b"ab<m1>", &in_turn, 0, allowance, PLENTY));
+            }
+            let ends_apart = Pair::split(&entries, |index| index == 0 || index + 1 == length);
+            for pair in [in_turn.swapped(), ends_apart.swapped(), ends_apart] {
+                cases.push(trans(b"ab<m1>", &pair, 0, u32::MAX, PLENTY));
             }
         }
     }
@@ -190,62 +275,95 @@ fn depths() -> Vec<Case> {
 
 /// Texts that spend 1,023 to 1,025 look-ups, by macros of 85 and by themselves.
 fn allowances() -> Vec<Case> {
-    let entries = [
-        Entry::string("s", b""),
-        Entry::macro_of("m", &b"<s>".repeat(84)),
+    let in_both = [Entry::string("s", b"")];
+    let hidden = [Entry::integer("S", 0)];
+    let in_house = [
+        Entry::macro_of("m", &b"<s><t>".repeat(42)),
+        Entry::string("t", b""),
     ];
+    let pair = Pair::of(&in_both, &[&in_house[..], &hidden].concat());
     let mut cases = Vec::new();
     for single in 3..=5 {
-        let text = [b"<m>".repeat(12), b"<s>".repeat(single)].concat();
+        let text = [b"<m>".repeat(12), b"<t>".repeat(single)].concat();
         for allowance in [1_023, 1_024, 1_025, u32::MAX] {
-            cases.push(trans(&text, &entries, 0, allowance, PLENTY));
+            cases.push(trans(&text, &pair, 0, allowance, PLENTY));
         }
     }
-    cases.push(trans(&b"<s>".repeat(1_025), &entries, 0, 2_000, PLENTY));
+    let each_once_more = [b"<s><t>".repeat(512), b"<s>".to_vec()].concat();
+    cases.push(trans(&each_once_more, &pair, 0, 2_000, PLENTY));
+    cases.push(trans(&b"<t>".repeat(1_024), &pair, 0, 2_000, PLENTY));
     cases
 }
 
 /// Rooms around the need, and a refusal that comes before "no room".
 fn rooms() -> Vec<Case> {
-    let entries = [Entry::string("s", &[b'v'; 255])];
+    let long = [Entry::string("s", &[b'v'; 255])];
+    let short = [Entry::string("s", b"v")];
+    let pair = Pair::of(&long, &short);
     let mut cases = Vec::new();
     for room in [0, 1, 255, 256, 257] {
-        cases.push(trans(b"<s>x", &entries, 0, 1, room));
+        cases.push(trans(b"<s>x", &pair, 0, 1, room));
+        cases.push(trans(b"<s>x", &pair.swapped(), 0, 1, room));
     }
-    cases.push(trans(b"abc<nope>", &entries, 0, 1, 0));
-    cases.push(trans(b"\"abc", &entries, 0, 1, 0));
+    cases.push(trans(b"abc<nope>", &pair, 0, 1, 0));
+    cases.push(trans(b"\"abc", &pair, 0, 1, 0));
     // The need is far over the longest text, 1,024 times 255.
-    cases.push(trans(&b"<s>".repeat(1_024), &entries, 0, 1_024, 65_535));
+    cases.push(trans(&b"<s>".repeat(1_024), &pair, 0, 1_024, 65_535));
+    cases
+}
+
+/// Bad tables come before everything that a text meets, even where it names nothing.
+fn in_ill_pairs() -> Vec<Case> {
+    let texts: [&[u8]; 4] = [b"", b"|", b"<f>", b"<h>x"];
+    let mut cases = Vec::new();
+    for lent in ill_pairs() {
+        for (room, text) in texts.iter().enumerate() {
+            cases.push(over(text, &lent.farm, &lent.house, room));
+        }
+    }
+    cases
+}
+
+/// Around 256 records in each table, 512 names in all.
+fn in_full_tables() -> Vec<Case> {
+    let mut cases = Vec::new();
+    for (farm, house) in [(256, 256), (257, 256), (256, 257), (257, 257)] {
+        let mut pair = Pair::of(&numbered(farm), &numbered_from(300, house));
+        pair.farm[255].value = b"last of the farm".to_vec();
+        pair.house[255].value = b"last of the house".to_vec();
+        let [of_farm, of_house] = [&pair.farm[255].name, &pair.house[255].name];
+        let text = [b"<", &of_farm[..], b"><", &of_house[..], b">"].concat();
+        cases.push(trans(&text, &pair, 0, 2, PLENTY));
+    }
     cases
 }
 
 /// Texts and tables around 65,535 bytes; few, for each is a long line.
 fn long() -> Vec<Case> {
     let ended_early = [b"ab\0".to_vec(), vec![b'|'; 65_533]].concat();
-    let bad = [Entry::string("", b"")];
+    let longest = [b" ".to_vec(), b"\"\"".repeat(32_767)].concat();
+    let (bad, over_long) = (bad_table(), over_long_table());
     vec![
-        trans(b"<aA>", &numbered(257), 0, 1, PLENTY),
-        trans(b"<aA>", &numbered(256), 0, 1, PLENTY),
-        trans(&b"\"\"".repeat(32_767), &[], 0, 0, 65_535),
-        trans(&ended_early[..65_535], &bad, 0, 0, 2),
-        trans(&ended_early, &of_length(65_536), 0, 0, 2),
-        trans(b"<aA>", &of_length(65_535), 0, 1, PLENTY),
-        trans(b"|", &of_length(65_536), 0, 1, 0),
+        nameless(&longest, 0, 65_535),
+        over(&ended_early, &over_long, &[0; 65_537], 2),
+        over(b"|", &over_long, &over_long, 0),
+        over(b"|", &over_long, &bad, 0),
+        over(b"|", &bad, &over_long, 0),
     ]
 }
 
 pub fn random(random: &mut Random) -> Case {
-    let (text, table) = match random.below(12) {
-        0 | 1 => deep(random),
-        2 => in_any_table(random),
-        3 => (soup(random, b"\"\"||!!<>@a65 \n", 9), Vec::new()),
+    let (text, tables) = match random.below(12) {
+        0 => deep(random),
+        1 => in_any_tables(random),
+        2 => (soup(random, b"\"\"||!!<>@a65 \n", 9), LentTables::default()),
         _ => {
-            let entries = entries(random);
-            (text(random, &names(&entries)), table(&entries))
+            let pair = pair(random);
+            (text(random, &pair.names()), pair.lent())
         }
     };
     let flags = flags(random);
-    with_limits(random, text, table, flags)
+    with_limits(random, text, tables, flags)
 }
 
 /// No flags often, or each combination, with or without bits that count for nothing.
@@ -256,49 +374,48 @@ fn flags(random: &mut Random) -> u32 {
 }
 
 /// Adds an allowance and a room, both around the exact ones.
-fn with_limits(random: &mut Random, text: Vec<u8>, table: Vec<u8>, flags: u32) -> Case {
-    let under = |allowance| translate(&text, &table, Flags(flags), allowance, usize::MAX);
+fn with_limits(random: &mut Random, text: Vec<u8>, tables: LentTables, flags: u32) -> Case {
+    let under = |allowance| translate(&text, &tables, Flags(flags), allowance, usize::MAX);
     let exact = least_allowance(|allowance| under(allowance).err().map(|no| no.refused));
     let allowance = allowance(random, exact);
     let need = under(allowance).map_or(2, |translated| translated.output.len());
     Case::Trans {
         room: room(random, need),
         text,
-        table,
+        tables,
         flags,
         allowance,
     }
 }
 
-/// Records whose macros name mostly the records behind them, so that few name themselves.
-fn entries(random: &mut Random) -> Vec<Entry> {
-    let mut entries = random_entries(random, 5);
-    let names = names(&entries);
-    for (index, entry) in entries.iter_mut().enumerate() {
+/// Records whose macros name mostly what is behind their own name, in either table, so that few
+/// name themselves.
+fn pair(random: &mut Random) -> Pair {
+    let mut pair = random_pair(random, 5);
+    let names = pair.names();
+    for entry in pair.farm.iter_mut().chain(&mut pair.house) {
         if entry.kind == Kind::Macro {
-            let first = if random.one_in(12) { 0 } else { index + 1 };
+            let is_own = |name: &Vec<u8>| name.eq_ignore_ascii_case(&entry.name);
+            let behind = names.iter().position(is_own).map_or(0, |own| own + 1);
+            let first = if random.one_in(12) { 0 } else { behind };
             entry.value = text(random, &names[first..]);
             entry.value.truncate(255);
         }
     }
-    entries
+    pair
 }
 
-fn names(entries: &[Entry]) -> Vec<Vec<u8>> {
-    entries.iter().map(|entry| entry.name.clone()).collect()
-}
-
-/// Any text with a table that is perhaps damaged.
-fn in_any_table(random: &mut Random) -> (Vec<u8>, Vec<u8>) {
-    let entries = entries(random);
-    let text = text(random, &names(&entries));
-    (text, damaged(random, &entries))
+/// Any text with tables of which one or both are perhaps damaged.
+fn in_any_tables(random: &mut Random) -> (Vec<u8>, LentTables) {
+    let pair = pair(random);
+    let text = text(random, &pair.names());
+    (text, pair.damaged(random))
 }
 
 /// A chain of macros of a length around the deepest, entered at its first, second or third.
-fn deep(random: &mut Random) -> (Vec<u8>, Vec<u8>) {
+fn deep(random: &mut Random) -> (Vec<u8>, LentTables) {
     let length = random.pick(&[2, 14, 15, 16, 16, 17, 17, 18, 19]);
-    let known = names(&one_of_each_kind());
+    let known = Pair::in_farm(&one_of_each_kind()).names();
     let last = text(random, &known);
     let mut entries = chain(length, &last);
     for entry in &mut entries {
@@ -309,7 +426,8 @@ fn deep(random: &mut Random) -> (Vec<u8>, Vec<u8>) {
     entries.extend(one_of_each_kind());
     let before = symbol(random, &known);
     let entrance = format!("<M{}>", random.between(1, length.min(3)));
-    ([before, entrance.into_bytes()].concat(), table(&entries))
+    let text = [before, entrance.into_bytes()].concat();
+    (text, Pair::dealt(random, entries).lent())
 }
 
 /// A text with symbols of every kind, with faults in some, perhaps quoted, perhaps ended early.

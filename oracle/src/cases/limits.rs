@@ -18,8 +18,8 @@ pub fn least_allowance(refusal_under: impl Fn(u32) -> Option<Located>) -> u32 {
     low
 }
 
-fn is_spent(refused: Located) -> bool {
-    matches!(refused, Located::InText(refused) if refused.refusal == Refusal::AllowanceSpent)
+fn is_spent(Located { refused, .. }: Located) -> bool {
+    refused.refusal == Refusal::AllowanceSpent
 }
 
 /// The exact allowance, its neighbours, and those at the rule's own limits.

@@ -89,7 +89,12 @@ fn short_name(index: usize) -> String {
 
 /// So many records without values.
 pub fn numbered(count: usize) -> Vec<Entry> {
-    (0..count)
+    numbered_from(0, count)
+}
+
+/// So many records without values, their names from one index on.
+pub fn numbered_from(first: usize, count: usize) -> Vec<Entry> {
+    (first..first + count)
         .map(|index| Entry::string(&short_name(index), b""))
         .collect()
 }
@@ -214,12 +219,18 @@ fn misshapen(random: &mut Random, entries: &[Entry]) -> Vec<u8> {
     table(&entries)
 }
 
+/// Another record whose name equals that of a given one.
+pub fn twin_of(random: &mut Random, entry: &Entry) -> Entry {
+    let name = in_mixed_case(random, &entry.name);
+    let kind = random.pick(&[Kind::String, Kind::Integer, Kind::Macro]);
+    let value = random_value(random, kind);
+    Entry { kind, name, value }
+}
+
 /// The table with one more record somewhere, whose name equals one that is there.
 fn with_twin(random: &mut Random, entries: &[Entry]) -> Vec<u8> {
-    let mut twin = entries[random.below(entries.len())].clone();
-    twin.name = in_mixed_case(random, &twin.name);
-    twin.kind = random.pick(&[Kind::String, Kind::Integer, Kind::Macro]);
-    twin.value = random_value(random, twin.kind);
+    let known = random.below(entries.len());
+    let twin = twin_of(random, &entries[known]);
     let mut entries = entries.to_vec();
     entries.insert(random.below(entries.len() + 1), twin);
     table(&entries)

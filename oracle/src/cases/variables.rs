@@ -1,22 +1,26 @@
 //! Cases for the chapter "Variables": tables, and look-ups in them.
 
 use super::forms::in_mixed_case;
+use super::pairs::{bad_table, ill_pairs, over_long_table, random_pair, OneName, Pair};
 use super::tables::{
-    damaged, numbered, of_length, one_of_each_kind, random_entries, table, Entry, FIELD_FAULTS,
-    FORBIDDEN,
+    damaged, numbered, numbered_from, of_length, one_of_each_kind, random_entries, table, Entry,
+    FIELD_FAULTS, FORBIDDEN,
 };
 use crate::lines::Case;
 use crate::random::Random;
+use crate::variables::LentTables;
 
 fn is_good(table: Vec<u8>) -> Case {
     Case::Table { table }
 }
 
-fn look(entries: &[Entry], name: &[u8]) -> Case {
-    Case::Look {
-        table: table(entries),
-        name: name.to_vec(),
-    }
+fn look(pair: &Pair, name: &[u8]) -> Case {
+    look_in(pair.lent(), name)
+}
+
+fn look_in(tables: LentTables, name: &[u8]) -> Case {
+    let name = name.to_vec();
+    Case::Look { tables, name }
 }
 
 /// The example, every damage to a small table, the names, the counts, the longest tables.
@@ -146,13 +150,22 @@ fn around_the_longest() -> Vec<Vec<u8>> {
     ]
 }
 
-/// Hits and misses in small tables, letters and their neighbours, and the longest tables.
+/// Hits and misses in small tables, one name in both, letters and their neighbours, bad tables,
+/// the longest tables.
 pub fn fixed_looks() -> Vec<Case> {
-    let mut cases = vec![look(&[Entry::string("a", b"x")], b"A")];
+    let example = [Entry::string("a", b"x")];
+    let mut cases = vec![
+        look(&Pair::in_house(&example), b"A"),
+        look(&Pair::in_farm(&example), b"A"),
+    ];
     cases.extend(hits_and_misses());
+    cases.extend(one_name_everywhere());
+    cases.extend(empty_values());
     cases.extend(neighbours_of_letters());
     cases.extend(longest_names());
-    cases.extend(in_bad_tables());
+    cases.extend(in_cut_tables());
+    cases.extend(in_ill_pairs());
+    cases.extend(in_full_tables());
     cases.extend(in_long_tables());
     cases
 }
@@ -163,56 +176,136 @@ fn hits_and_misses() -> Vec<Case> {
         " n", "n ", "n\0", "<n>",
     ];
     let entries = one_of_each_kind();
-    let mut cases: Vec<Case> = names
-        .iter()
-        .map(|name| look(&entries, name.as_bytes()))
-        .collect();
-    cases.push(look(&[], b""));
-    cases.push(look(&[], b"n"));
+    let in_turn = Pair::in_turn(&entries);
+    let mut pairs = vec![Pair::in_house(&entries), Pair::in_farm(&entries)];
+    pairs.extend([in_turn.swapped(), in_turn]);
+    let mut cases = Vec::new();
+    for pair in pairs {
+        cases.extend(names.map(|name| look(&pair, name.as_bytes())));
+    }
+    cases.push(look(&Pair::default(), b""));
+    cases.push(look(&Pair::default(), b"n"));
+    cases
+}
+
+/// A name of every kind or none in either table, and names that stand beside it.
+fn one_name_everywhere() -> Vec<Case> {
+    let mut cases = Vec::new();
+    for one_name in OneName::everywhere() {
+        let pair = one_name.pair();
+        for name in ["VV", "vv", "w", "only", "v"] {
+            cases.push(look(&pair, name.as_bytes()));
+        }
+    }
+    cases
+}
+
+/// An empty value is another answer than an unknown name, and hides one that is not empty.
+fn empty_values() -> Vec<Case> {
+    let empty = [Entry::string("e", b""), Entry::macro_of("m", b"")];
+    let other = [Entry::macro_of("M", b"x"), Entry::integer("E", 0)];
+    let pair = Pair::of(&empty, &other);
+    let pairs = [
+        pair.swapped(),
+        pair,
+        Pair::in_farm(&empty),
+        Pair::in_house(&empty),
+    ];
+    let mut cases = Vec::new();
+    for pair in pairs {
+        cases.extend(["e", "m", "q"].map(|name| look(&pair, name.as_bytes())));
+    }
     cases
 }
 
 /// Names that differ in bit 5 alone, where it is a letter's case and where it is not.
 fn neighbours_of_letters() -> Vec<Case> {
-    let across = |byte: u8| {
-        let name = String::from(char::from(byte));
-        look(&[Entry::string(&name, &[byte])], &[byte ^ 0x20])
-    };
-    (64..=94).chain(97..=122).map(across).collect()
-}
-
-/// Names around the longest one that a record can have.
-fn longest_names() -> Vec<Case> {
-    let entries = [Entry::string(&"w".repeat(32), b"long")];
-    [31, 32, 33, 255, 256, 288]
-        .map(|length| look(&entries, &vec![b'W'; length]))
-        .into()
-}
-
-/// A name that stands before the bad record is unknown all the same.
-fn in_bad_tables() -> Vec<Case> {
-    let whole = table(&one_of_each_kind());
-    let cut = |length: usize| Case::Look {
-        table: whole[..length].to_vec(),
-        name: b"ab".to_vec(),
-    };
-    let mut cases: Vec<Case> = (0..whole.len()).map(cut).collect();
-    for count in [256, 257] {
-        let entries = numbered(count);
-        cases.push(look(&entries, b"aa"));
-        cases.push(look(&entries, &entries[count - 1].name));
+    let mut cases = Vec::new();
+    for byte in (64..=94).chain(97..=122) {
+        let other = byte ^ 0x20;
+        let named = |byte: u8| [Entry::string(&String::from(char::from(byte)), &[byte])];
+        cases.push(look(&Pair::in_house(&named(byte)), &[other]));
+        cases.push(look(&Pair::of(&named(byte), &named(other)), &[other]));
     }
     cases
 }
 
-/// The last name of tables around 65,535 bytes; few, for each is a long line.
+/// Names around the longest one that a record can have; one over the longest text is only unknown.
+fn longest_names() -> Vec<Case> {
+    let entries = [Entry::string(&"w".repeat(32), b"long")];
+    let shorter = [Entry::string(&"W".repeat(31), b"short")];
+    let mut cases = Vec::new();
+    for length in [31, 32, 33, 255, 256, 288] {
+        let name = vec![b'W'; length];
+        cases.push(look(&Pair::in_house(&entries), &name));
+        cases.push(look(&Pair::in_farm(&entries), &name));
+        cases.push(look(&Pair::of(&entries, &shorter), &name));
+    }
+    cases.push(look(&Pair::of(&shorter, &entries), &[b'w'; 65_536]));
+    cases
+}
+
+/// A name that stands before the bad record, or in the other table, is not told.
+fn in_cut_tables() -> Vec<Case> {
+    let whole = table(&one_of_each_kind());
+    let other = table(&[Entry::string("ab", b""), Entry::integer("x", 1)]);
+    let mut cases = Vec::new();
+    for length in 0..whole.len() {
+        let (cut, other) = (whole[..length].to_vec(), other.clone());
+        let cut_house = LentTables {
+            farm: other.clone(),
+            house: cut.clone(),
+        };
+        let cut_farm = LentTables {
+            farm: cut,
+            house: other,
+        };
+        cases.push(look_in(cut_house, b"ab"));
+        cases.push(look_in(cut_farm, b"ab"));
+    }
+    cases
+}
+
+fn in_ill_pairs() -> Vec<Case> {
+    let mut cases = Vec::new();
+    for lent in ill_pairs() {
+        for name in ["f", "H", "q"] {
+            cases.push(look_in(lent.clone(), name.as_bytes()));
+        }
+    }
+    cases
+}
+
+/// Around 256 records in each table, all of them shared or 512 names in all.
+fn in_full_tables() -> Vec<Case> {
+    let full = numbered(256);
+    let mut cases = vec![look(&Pair::of(&full, &full), &full[255].name)];
+    for (farm, house) in [(256, 256), (257, 256), (256, 257), (257, 257)] {
+        let pair = Pair::of(&numbered(farm), &numbered_from(300, house));
+        cases.push(look(&pair, &pair.farm[farm - 1].name));
+        cases.push(look(&pair, &pair.house[house - 1].name));
+    }
+    cases
+}
+
+/// Tables around 65,535 bytes; few, for each is a long line.
 fn in_long_tables() -> Vec<Case> {
-    [65_535, 65_536]
-        .map(|length| {
-            let entries = of_length(length);
-            look(&entries, &entries[entries.len() - 1].name)
-        })
-        .into()
+    let longest = of_length(65_535);
+    let mut ends_otherwise = longest.clone();
+    ends_otherwise[longest.len() - 1].name = b"zz".to_vec();
+    let bad_farm = LentTables {
+        farm: bad_table(),
+        house: over_long_table(),
+    };
+    let both_over_long = LentTables {
+        farm: over_long_table(),
+        house: vec![0; 65_537],
+    };
+    vec![
+        look(&Pair::of(&longest, &ends_otherwise), b"ZZ"),
+        look_in(bad_farm, b"aa"),
+        look_in(both_over_long, b"aa"),
+    ]
 }
 
 pub fn random_table(random: &mut Random) -> Case {
@@ -225,18 +318,20 @@ pub fn random_table(random: &mut Random) -> Case {
 }
 
 pub fn random_look(random: &mut Random) -> Case {
-    let entries = random_entries(random, 7);
-    let name = wanted_name(random, &entries);
-    let table = if random.one_in(8) {
-        damaged(random, &entries)
+    let pair = random_pair(random, 7);
+    let name = wanted_name(random, &pair);
+    let tables = if random.one_in(5) {
+        pair.damaged(random)
     } else {
-        table(&entries)
+        pair.lent()
     };
-    Case::Look { table, name }
+    Case::Look { tables, name }
 }
 
-/// The name of the first, the last or any record, in any case or missed by one byte.
-fn wanted_name(random: &mut Random, entries: &[Entry]) -> Vec<u8> {
+/// The name of a table's first, last or any record, in any case or missed by one byte.
+fn wanted_name(random: &mut Random, pair: &Pair) -> Vec<u8> {
+    let tables = [&pair.farm, &pair.house];
+    let entries = random.pick(&tables);
     if entries.is_empty() || random.one_in(20) {
         return random.pick(&["", "a", "n", "99999999999X"]).into();
     }

@@ -6,6 +6,7 @@ use super::pages::{plain, spaced, Brackets};
 use super::trees::Tree;
 use crate::lines::Case;
 use crate::random::Random;
+use crate::variables::LentTables;
 
 type Cover = fn(Tree) -> Tree;
 
@@ -61,7 +62,7 @@ pub fn fixed() -> Vec<Case> {
                 Tree::binary(&SUM, deep(), deep()),
             ];
             for tree in shapes {
-                cases.push(plain(&tree).agreed(Vec::new(), 0));
+                cases.push(plain(&tree).agreed(LentTables::default(), 0));
             }
         }
     }

@@ -5,7 +5,8 @@ use super::pages::{spaced, Brackets, Written};
 use super::trees::{Meaning, Tree};
 use crate::cases::forms::{in_mixed_case, in_some_form};
 use crate::cases::limits::allowance;
-use crate::cases::tables::{table, Entry};
+use crate::cases::pairs::Pair;
+use crate::cases::tables::Entry;
 use crate::cases::values::value;
 use crate::lines::Case;
 use crate::random::Random;
@@ -53,9 +54,11 @@ const NO_OPERATORS: [&str; 10] = [
 
 /// The variables that a tree can name, and how often something in it is wrong.
 pub struct Ground {
+    /// The records that count; the farm's can hide others of their names in the house.
     pub entries: Vec<Entry>,
     /// What each entry's name means in an expression.
     meanings: Vec<Meaning>,
+    pub pair: Pair,
     /// One token in so many is wrong, if any.
     one_wrong_in: Option<usize>,
 }
@@ -66,6 +69,7 @@ impl Ground {
         let mut ground = Ground {
             entries: Vec::new(),
             meanings: Vec::new(),
+            pair: Pair::default(),
             one_wrong_in,
         };
         for name in NAMES {
@@ -73,6 +77,7 @@ impl Ground {
                 ground.add(random, name);
             }
         }
+        ground.pair = Pair::dealt(random, ground.entries.clone());
         ground
     }
 
@@ -142,7 +147,7 @@ impl Ground {
             written.text.extend(random.pick(&ends).as_bytes());
         }
         let allowance = allowance(random, written.look_ups() as u32);
-        written.agreed(table(&self.entries), allowance)
+        written.agreed(self.pair.lent(), allowance)
     }
 }
 

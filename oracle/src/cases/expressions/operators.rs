@@ -4,6 +4,7 @@ use super::arithmetic::{Binary, Unary, BINARY, UNARY};
 use super::pages::plain;
 use super::trees::Tree;
 use crate::lines::Case;
+use crate::variables::LentTables;
 
 /// Operands at the edges of what some operator does; those over the highest number are patterns.
 const EDGES: [i64; 15] = [
@@ -28,7 +29,7 @@ pub fn fixed() -> Vec<Case> {
 }
 
 fn case(tree: &Tree) -> Case {
-    plain(tree).agreed(Vec::new(), 0)
+    plain(tree).agreed(LentTables::default(), 0)
 }
 
 /// Every two-sided operator between every two edges.

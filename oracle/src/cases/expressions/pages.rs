@@ -5,6 +5,7 @@ use super::trees::{Leaf, Meaning, Tree};
 use crate::answers::answer;
 use crate::lines::Case;
 use crate::random::Random;
+use crate::variables::LentTables;
 use std::ops::Range;
 
 const MOST_COVERS: usize = 16;
@@ -247,18 +248,18 @@ impl Written {
             return no(12, self.look_ups[allowed]);
         }
         match self.worth {
-            Ok(value) => format!("val {value} {}", self.end),
+            Ok(value) => format!("int {value} {}", self.end),
             Err(fault) => no(fault.number, fault.place),
         }
     }
 
-    /// The case over a good table, once the evaluator has given the answer that has to come.
-    pub fn agreed(self, table: Vec<u8>, allowance: u32) -> Case {
+    /// The case over good tables, once the evaluator has given the answer that has to come.
+    pub fn agreed(self, tables: LentTables, allowance: u32) -> Case {
         let known = self.answer(allowance);
         let shown = String::from_utf8_lossy(&self.text).into_owned();
         let case = Case::Eval {
             text: self.text,
-            table,
+            tables,
             allowance,
         };
         assert_eq!(
@@ -347,6 +348,6 @@ mod tests {
     #[should_panic(expected = "two routes differ")]
     fn another_answer_of_the_evaluator_ends_it() {
         let wrong = Tree::leaf(b"1", Meaning::Number(2));
-        plain(&wrong).agreed(Vec::new(), 0);
+        plain(&wrong).agreed(LentTables::default(), 0);
     }
 }

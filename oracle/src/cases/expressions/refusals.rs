@@ -3,7 +3,8 @@
 use super::arithmetic::{Binary, AND, DIFFERENCE, MINUS, NOT, QUOTIENT, REMAINDER, SUM};
 use super::pages::plain;
 use super::trees::{Meaning, Tree};
-use crate::cases::tables::{table, Entry};
+use crate::cases::pairs::Pair;
+use crate::cases::tables::Entry;
 use crate::lines::Case;
 
 /// Joints of different levels; under the last one the right side is a divisor.
@@ -19,14 +20,15 @@ pub fn fixed() -> Vec<Case> {
         .collect()
 }
 
-/// A case over an integer of 7, a string and a macro.
+/// A case over the house's integer of 7 and macro, and a string by which the farm hides an integer.
 fn case(tree: &Tree, allowance: u32) -> Case {
-    let entries = [
+    let farm = [Entry::string("s", b"7")];
+    let house = [
         Entry::integer("i", 7),
-        Entry::string("s", b"7"),
+        Entry::integer("S", 5),
         Entry::macro_of("m", b"7"),
     ];
-    plain(tree).agreed(table(&entries), allowance)
+    plain(tree).agreed(Pair::of(&farm, &house).lent(), allowance)
 }
 
 fn integer() -> Tree {

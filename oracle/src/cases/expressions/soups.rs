@@ -4,7 +4,7 @@ use super::growth::{binary, unary, Ground};
 use super::pages::{grows_by, spaced, Brackets};
 use crate::cases::forms::{bad_base, no_digit, number, soup, spaces, too_big};
 use crate::cases::limits::{allowance, least_allowance};
-use crate::cases::tables::{damaged, table, Entry};
+use crate::cases::tables::Entry;
 use crate::expressions::evaluate;
 use crate::lines::Case;
 use crate::random::Random;
@@ -22,7 +22,7 @@ const ODD: [&str; 40] = [
 /// The bytes of tokens and of what spoils them.
 const BYTES: &[u8] = b"0123579AaNnDdOoRrTtMmEeqx$__&&()<>=<>=+-*/   \t\n#\"\x80";
 
-/// A tree with a flaw, tokens in any order, or bytes in any order; the table good or bad.
+/// A tree with a flaw, tokens in any order, or bytes in any order; the tables good or bad.
 pub fn random(random: &mut Random) -> Case {
     let ground = Ground::new(random, Some(20));
     let text = match random.below(8) {
@@ -34,16 +34,16 @@ pub fn random(random: &mut Random) -> Case {
         6 => soup(random, BYTES, 14),
         _ => (0..random.below(8)).map(|_| random.byte()).collect(),
     };
-    let table = if random.one_in(10) {
-        damaged(random, &ground.entries)
+    let tables = if random.one_in(6) {
+        ground.pair.damaged(random)
     } else {
-        table(&ground.entries)
+        ground.pair.lent()
     };
-    let exact = least_allowance(|allowance| evaluate(&text, &table, allowance).err());
+    let exact = least_allowance(|allowance| evaluate(&text, &tables, allowance).err());
     Case::Eval {
         allowance: allowance(random, exact),
         text,
-        table,
+        tables,
     }
 }
 

@@ -1,6 +1,7 @@
 //! Texts that tell two readings of the rules apart, each with what it is there for.
 
 use super::eval;
+use crate::cases::pairs::Pair;
 use crate::cases::tables::Entry;
 use crate::lines::Case;
 
@@ -66,9 +67,10 @@ const ENDS: &[&str] = &[
     "1\0+", "1 \n+", "1+\r2", "(1\n)", "\n1", "37_\0z", "&\n1", "1\t", "\t1", "1\x7F", "\u{e9}",
 ];
 
-/// An integer of 7, a string, a macro, and integers whose names are nearly operators.
-pub fn known() -> Vec<Entry> {
-    vec![
+/// An integer of 7, a string, a macro, and integers whose names are nearly operators; either
+/// table has some of them.
+pub fn known() -> Pair {
+    Pair::in_turn(&[
         Entry::integer("i", 7),
         Entry::string("s", b"7"),
         Entry::macro_of("m", b"7"),
@@ -76,7 +78,7 @@ pub fn known() -> Vec<Entry> {
         Entry::integer("Sys$Year", 1_989),
         Entry::integer("x_1", 0),
         Entry::integer("mod", u32::MAX),
-    ]
+    ])
 }
 
 /// Every text, with enough look-ups.
@@ -94,7 +96,9 @@ pub fn fixed() -> Vec<Case> {
 /// Around sixteen covers, with an operand and without.
 fn around_the_deepest() -> Vec<Case> {
     let texts = [15, 16, 17, 18].map(covered_so_often).concat();
-    let cases = texts.iter().map(|text| eval(text.as_bytes(), &[], 0));
+    let cases = texts
+        .iter()
+        .map(|text| eval(text.as_bytes(), &Pair::default(), 0));
     cases.collect()
 }
 
