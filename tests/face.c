@@ -270,7 +270,8 @@ static bool trans(struct line line)
     if (!is_done(&line) || room > MOST_ROOM) return false;
     lend(&buffer, room);
     struct nos_tables tables = both_tables();
-    struct nos_answer answer = nos_translate(lent_by(&text), text.length, NOS_TABLES(tables), flags, allowance, lent_by(&buffer), room);
+    struct nos_answer answer = nos_translate(lent_by(&text), text.length, NOS_TABLES(tables), flags, allowance, lent_by(&buffer),
+                                             room);
     size_t written = 0;
     bool as_said = true;
     if (answer.number == NOS_ACCEPTED) {
