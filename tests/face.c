@@ -220,10 +220,13 @@ static bool are_whole(void) { return is_whole(&text) && is_whole(&farm) && is_wh
 /* The letter for what a place is counted in. No line of answer has a "?". */
 static char counted_in(uint32_t counted) { return counted <= NOS_IN_THE_FARM ? "thf"[counted] : '?'; }
 
-/* Whether a variable that was found has its value where its record says, in the table that the answer names. */
+/* The table that a variable was found in. */
+static const struct area *holder_of(struct nos_variable found) { return found.counted == NOS_IN_THE_FARM ? &farm : &house; }
+
+/* Whether a variable that was found has its kind, and its value where its record says, in the table that the answer names. */
 static bool is_in_its_record(struct nos_variable found)
 {
-    const struct area *table = found.counted == NOS_IN_THE_FARM ? &farm : &house;
+    const struct area *table = holder_of(found);
     if (found.counted == NOS_IN_THE_TEXT || table->length < 5 || found.place > table->length - 5) return false;
     const uint8_t *record = table->lent + found.place;
     return found.kind == record[2] && found.start == found.place + 5 + record[3] && found.length == record[4]
@@ -241,7 +244,7 @@ static bool look(struct line line)
     if (answer.number == NOS_ACCEPTED) {
         bool as_said = is_in_its_record(answer);
         printf("rec %c %zu %" PRIu32 " ", counted_in(answer.counted), answer.place, answer.kind);
-        if (as_said) put_hex((answer.counted == NOS_IN_THE_FARM ? farm : house).lent + answer.start, answer.length);
+        if (as_said) put_hex(holder_of(answer)->lent + answer.start, answer.length);
         return end_line(are_whole(), as_said);
     }
     bool as_said = answer.kind == 0 && answer.length == 0 && answer.start == 0;
