@@ -12,7 +12,7 @@ enum { REPEATS = 15, SIDES = 4, PROVED = 0, CLANG = 1, GCC = 2, RIVAL = 3 };
 static const double least = 20e6; /* nanoseconds of one sample */
 
 static const struct calls proved = {
-    "proved", nos_convert, nos_read_unsigned, nos_check_table, nos_translate, nos_evaluate,
+    "proved", nos_convert, nos_read_unsigned, nos_check_table, nos_look_up, nos_translate, nos_evaluate,
 };
 static const struct calls *const sets[] = {&proved, &plain_by_clang, &plain_by_gcc};
 
@@ -64,9 +64,9 @@ static void check(const struct work *w, struct input *in)
                 (unsigned long long)first);
         exit(1);
     }
-    /* Of many answers too: a sum of accepted ones has these bits 0. */
+    /* Of many answers too: a sum of accepted ones has these bits 0, unknown names that should be so among them. */
     if ((first & 0xFFFF) == 0) return;
-    fprintf(stderr, "%s: refused, and what is timed should be accepted\n", w->name);
+    fprintf(stderr, "%s: what is timed should be accepted, and an unknown name unknown\n", w->name);
     exit(1);
 }
 

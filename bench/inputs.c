@@ -147,7 +147,9 @@ static void make_long_number(struct input *in, unsigned scale)
 static size_t name_of(char name[33], size_t number)
 {
     static const char *const owners[] = {"Sys", "Diary", "File", "Alias", "Run", "Wimp", "Font", "Field",
-                                         "Farm", "Spray", "Inet", "System", "Printer", "Paper", "Draw", "Edit"};
+                                         "Farm", "Spray", "Inet", "System", "Printer", "Paper", "Draw", "Edit",
+                                         "Barn", "Barley", "Clover", "Desktop", "Grower", "Harvest", "Help", "Maize",
+                                         "Office", "Paint", "Rye", "Silo", "Seed", "Task", "Weather", "Yard"};
     static const char *const parts[] = {"Path", "Dir", "Type_FFF", "Date", "Time", "Year", "Row", "Crop",
                                         "Options", "Prefix", "Code", "Area", "State", "Seed", "Load", "Font"};
     return (size_t)snprintf(name, 33, "%s$%s", owners[number / 16], parts[number % 16]);
@@ -158,49 +160,125 @@ static size_t alike_name(char name[33], size_t number)
     return (size_t)snprintf(name, 33, "Certified$Fields$Diary$Entry%03u", (unsigned)number % 256);
 }
 
-static void add_record(struct input *in, uint8_t kind, const char *name, const void *value, size_t length)
+static void add_record(struct input *in, enum nos_counting to, uint8_t kind, const char *name, const void *value, size_t length)
 {
-    uint8_t *to = in->table + in->table_length;
+    uint8_t *table = to == NOS_IN_THE_FARM ? in->farm : in->house;
+    size_t *table_length = to == NOS_IN_THE_FARM ? &in->farm_length : &in->house_length;
     const uint8_t head[5] = {86, 82, kind, (uint8_t)strlen(name), (uint8_t)length};
-    memcpy(to, head, 5);
-    memcpy(to + 5, name, head[3]);
-    memcpy(to + 5 + head[3], value, length);
-    in->table_length += (size_t)5 + head[3] + length;
+    table += *table_length;
+    memcpy(table, head, 5);
+    memcpy(table + 5, name, head[3]);
+    memcpy(table + 5 + head[3], value, length);
+    *table_length += (size_t)5 + head[3] + length;
 }
 
-/* Every `integers`-th record is an integer, the others strings. */
-static void make_table(struct input *in, size_t count, unsigned integers, size_t (*naming)(char *, size_t))
+/* The names have the numbers from the first on. Every `integers`-th record is an integer, the others strings. */
+static void add_records(struct input *in, enum nos_counting to, size_t first, size_t count, unsigned integers,
+                        size_t (*naming)(char *, size_t))
 {
     char name[33];
     for (size_t i = 0; i < count; i++) {
         uint32_t number = mixed_value();
         const uint8_t bytes[4] = {(uint8_t)number, (uint8_t)(number >> 8), (uint8_t)(number >> 16), (uint8_t)(number >> 24)};
-        naming(name, i);
-        if (i % integers == 0) add_record(in, NOS_INTEGER, name, bytes, 4);
-        else add_record(in, NOS_STRING, name, "a value of some twenty", chance(22));
+        naming(name, first + i);
+        if (i % integers == 0) add_record(in, to, NOS_INTEGER, name, bytes, 4);
+        else add_record(in, to, NOS_STRING, name, "a value of some twenty", chance(22));
     }
+}
+
+static void make_house(struct input *in, size_t count, unsigned integers, size_t (*naming)(char *, size_t))
+{
+    add_records(in, NOS_IN_THE_HOUSE, 0, count, integers, naming);
+}
+
+/* Two tables of so many records, and where a name can stand then: the later half of the house's names are the earlier half of the
+ * farm's. */
+enum standing { HOUSE_ALONE, BOTH, FARM_ALONE, NEITHER };
+
+static void make_both(struct input *in, size_t count, unsigned integers)
+{
+    make_house(in, count, integers, name_of);
+    add_records(in, NOS_IN_THE_FARM, count / 2, count, integers, name_of);
+}
+
+static size_t name_standing(char name[33], enum standing where, size_t count)
+{
+    return name_of(name, where * count / 2 + chance((uint32_t)count / 2));
+}
+
+/* A name of the full house table. */
+static size_t house_name(char name[33])
+{
+    return name_of(name, chance(256));
+}
+
+/* Of full tables, a known name: half of them the house's alone, a quarter the farm's alone, a quarter in both. */
+static size_t known_name(char name[33])
+{
+    static const enum standing standings[] = {HOUSE_ALONE, HOUSE_ALONE, BOTH, FARM_ALONE};
+    return name_standing(name, standings[chance(4)], 256);
 }
 
 static void make_records(struct input *in, unsigned scale)
 {
-    make_table(in, scale * 128, 4, name_of);
+    make_house(in, scale * 128, 4, name_of);
 }
 
 static void make_alike_records(struct input *in, unsigned scale)
 {
-    make_table(in, scale * 128, 4, alike_name);
+    make_house(in, scale * 128, 4, alike_name);
 }
 
 static uint64_t run_check(const struct calls *c, struct input *in)
 {
-    return sum_of_checked(c->check_table(in->table, in->table_length));
+    return sum_of_checked(c->check_table(in->house, in->house_length));
+}
+
+static uint64_t run_look_up(const struct calls *c, struct input *in)
+{
+    uint64_t sum = 0;
+    for (size_t i = 0; i < in->count; i++) {
+        const struct item *item = in->items + i;
+        sum = sum * 31 + sum_of_variable(c->look_up(in->text + item->start, item->length, NOS_TABLES(*in)), item->wanted);
+    }
+    return sum;
+}
+
+/* Names are looked up one by one, and each look-up checks the tables anew. */
+enum { NAMES = 64 };
+
+static void add_name(struct input *in, const char *name, uint32_t wanted)
+{
+    in->items[in->count++] = (struct item){.start = in->length, .length = strlen(name), .wanted = wanted};
+    add(in, name);
+}
+
+static void make_look_ups(struct input *in, unsigned scale)
+{
+    char name[33];
+    make_records(in, scale);
+    while (in->count < NAMES) {
+        name_of(name, chance(scale * 128));
+        add_name(in, name, NOS_ACCEPTED);
+    }
+}
+
+static void make_look_ups_in_both(struct input *in, unsigned scale)
+{
+    char name[33];
+    make_both(in, scale * 128, 4);
+    while (in->count < NAMES) {
+        enum standing standing = chance(4);
+        name_standing(name, standing, scale * 128);
+        add_name(in, name, standing == NEITHER ? NOS_UNKNOWN_NAME : NOS_ACCEPTED);
+    }
 }
 
 /* ---- Texts. */
 
 static uint64_t run_translate(const struct calls *c, struct input *in)
 {
-    return sum_of_answer(c->translate(in->text, in->length, in->table, in->table_length, 0, 1024, in->out, sizeof in->out));
+    return sum_of_answer(c->translate(in->text, in->length, NOS_TABLES(*in), 0, 1024, in->out, sizeof in->out));
 }
 
 static void make_plain(struct input *in, unsigned scale)
@@ -215,28 +293,38 @@ static void add_marked(struct input *in, size_t period, const char *mark)
     add(in, mark);
 }
 
-static void make_references(struct input *in, unsigned scale)
+static void add_references(struct input *in, unsigned scale, size_t (*naming)(char *))
 {
-    char mark[36] = "<", name[33];
-    make_table(in, 256, 4, name_of);
+    char mark[36] = "<";
     for (unsigned i = 0; i < scale * 512; i++) {
-        size_t length = name_of(name, chance(256));
-        memcpy(mark + 1, name, length);
+        size_t length = naming(mark + 1);
         memcpy(mark + 1 + length, ">", 2);
         add_marked(in, 40, mark);
     }
+}
+
+static void make_references(struct input *in, unsigned scale)
+{
+    make_house(in, 256, 4, name_of);
+    add_references(in, scale, house_name);
+}
+
+static void make_references_to_both(struct input *in, unsigned scale)
+{
+    make_both(in, 256, 4);
+    add_references(in, scale, known_name);
 }
 
 /* Macros named m0 to m15, each of which names the one before it so many times. */
 static void make_macros(struct input *in, unsigned count, unsigned times, const char *mark, unsigned marks)
 {
     char name[8], value[64];
-    make_table(in, 16, 4, name_of);
-    add_record(in, NOS_MACRO, "m0", "rows |M of 12", 13);
+    make_house(in, 16, 4, name_of);
+    add_record(in, NOS_IN_THE_HOUSE, NOS_MACRO, "m0", "rows |M of 12", 13);
     for (unsigned i = 1; i < count; i++) {
         int length = times == 1 ? sprintf(value, "field <m%u> of rye", i - 1) : sprintf(value, "f <m%u> rye <m%u>", i - 1, i - 1);
         sprintf(name, "m%u", i);
-        add_record(in, NOS_MACRO, name, value, (size_t)length);
+        add_record(in, NOS_IN_THE_HOUSE, NOS_MACRO, name, value, (size_t)length);
     }
     for (unsigned i = 0; i < marks; i++) add_marked(in, 40, mark);
 }
@@ -267,7 +355,7 @@ static void make_marks_16(struct input *in, unsigned scale) { make_marked(in, sc
 
 static uint64_t run_evaluate(const struct calls *c, struct input *in)
 {
-    return sum_of_value(c->evaluate(in->text, in->length, in->table, in->table_length, 1024));
+    return sum_of_value(c->evaluate(in->text, in->length, NOS_TABLES(*in), 1024));
 }
 
 static void add_number(struct input *in)
@@ -314,15 +402,26 @@ static void make_brackets(struct input *in, unsigned scale)
     while (in->length < scale * 30000) add(in, "+((((((((((((((((7))))))))))))))))");
 }
 
-static void make_names(struct input *in, unsigned scale)
+static void add_names(struct input *in, unsigned scale, size_t (*naming)(char *))
 {
     char name[33];
-    make_table(in, 256, 1, name_of);
     for (unsigned i = 0; i < scale * 512; i++) {
         if (i > 0) add(in, chance(2) ? "+" : " - ");
-        name_of(name, chance(256));
+        naming(name);
         add(in, name);
     }
+}
+
+static void make_names(struct input *in, unsigned scale)
+{
+    make_house(in, 256, 1, name_of);
+    add_names(in, scale, house_name);
+}
+
+static void make_names_of_both(struct input *in, unsigned scale)
+{
+    make_both(in, 256, 1);
+    add_names(in, scale, known_name);
 }
 
 #define BYTES "the text's bytes"
@@ -334,6 +433,8 @@ const struct work works[] = {
     {"read_unsigned, one of 60,000 digits", "the digits", make_long_number, run_read, "strtoul", by_strtoul},
     {"translate, plain text", BYTES, make_plain, run_translate, "memcpy", by_memcpy},
     {"translate, a reference every 40 bytes", BYTES " and references", make_references, run_translate, NULL, NULL},
+    {"translate, references over a full farm's and house table", BYTES " and references", make_references_to_both, run_translate,
+     NULL, NULL},
     {"translate, macros 16 deep", BYTES " and references", make_deep_macros, run_translate, NULL, NULL},
     {"translate, macros of two macros", BYTES " and references", make_wide_macros, run_translate, NULL, NULL},
     {"translate, a code every 4 bytes", BYTES, make_codes_4, run_translate, NULL, NULL},
@@ -344,9 +445,12 @@ const struct work works[] = {
     {"translate, a number every 16 bytes", BYTES, make_marks_16, run_translate, NULL, NULL},
     {"check_table, 256 records", "the records", make_records, run_check, "a hash", by_hash},
     {"check_table, 256 names alike", "the records", make_alike_records, run_check, "a hash", by_hash},
+    {"look_up, names of a full house table, empty farm's", "the records", make_look_ups, run_look_up, NULL, NULL},
+    {"look_up, over a full farm's and house table", "the records", make_look_ups_in_both, run_look_up, NULL, NULL},
     {"evaluate, a long sum", BYTES, make_sums, run_evaluate, NULL, NULL},
     {"evaluate, brackets 16 deep", BYTES, make_brackets, run_evaluate, NULL, NULL},
     {"evaluate, all operators", BYTES, make_mixture, run_evaluate, NULL, NULL},
     {"evaluate, a sum of names", BYTES " and names", make_names, run_evaluate, NULL, NULL},
+    {"evaluate, a sum of names over both tables", BYTES " and names", make_names_of_both, run_evaluate, NULL, NULL},
 };
 const size_t work_count = sizeof works / sizeof *works;

@@ -6,15 +6,19 @@
 
 enum { MOST_ITEMS = 1024, SLOT = 40, ROOM = 400000 };
 
-/* A conversion, or a number that stands in the text. */
+/* A conversion, or a number or a name that stands in the text; `wanted` is the number that the name's look-up answers with. */
 struct item {
-    uint32_t call, value;
+    union {
+        uint32_t call, wanted;
+    };
+    uint32_t value;
     size_t start, length;
 };
 
+/* The tables are named as in struct nos_tables, so that NOS_TABLES takes an input too. */
 struct input {
-    uint8_t text[65536], table[65536], out[ROOM];
-    size_t length, table_length, count;
+    uint8_t text[65536], house[65536], farm[65536], out[ROOM];
+    size_t length, house_length, farm_length, count;
     struct item items[MOST_ITEMS];
 };
 

@@ -150,16 +150,17 @@ static struct nos_number read_unsigned(const uint8_t *text, size_t length, uint3
     return (struct nos_number){.value = (uint32_t)value, .place = at};
 }
 
-/* ---- Variables. The check leaves an index of the records behind, which look-ups use. */
+/* ---- Variables. The check leaves an index of the records behind, which look-ups use: the farm's come first, so that the first record
+ * with an equal name is the one that is meant. */
 
 struct record {
     const uint8_t *name, *value;
     uint8_t kind, name_length, value_length;
 };
 
-struct table {
-    size_t count;
-    struct record records[MOST_RECORDS];
+struct variables {
+    size_t farms, count; /* how many records are the farm's, and how many there are */
+    struct record records[2 * MOST_RECORDS];
 };
 
 static uint8_t small(uint8_t c)
@@ -172,15 +173,21 @@ static bool is_name_byte(uint8_t c)
     return c > 32 && c < 127 && c != '"' && c != '<' && c != '>';
 }
 
-static const struct record *find(const struct table *t, const uint8_t *name, size_t length)
+/* The first of so many records that has the name, or NULL. */
+static const struct record *find_in(const struct record *records, size_t count, const uint8_t *name, size_t length)
 {
-    for (const struct record *r = t->records; r < t->records + t->count; r++) {
+    for (const struct record *r = records; r < records + count; r++) {
         if (r->name_length != length) continue;
         size_t i = 0;
         while (i < length && small(r->name[i]) == small(name[i])) i++;
         if (i == length) return r;
     }
     return NULL;
+}
+
+static const struct record *find(const struct variables *all, const uint8_t *name, size_t length)
+{
+    return find_in(all->records, all->count, name, length);
 }
 
 /* Reads the record at a place into *r, and gives its length, or 0 where it has not a record's shape. */
@@ -196,24 +203,59 @@ static size_t read_record(const uint8_t *at, size_t length, struct record *r)
     return all;
 }
 
-static struct nos_checked index_table(struct table *t, const uint8_t *table, size_t length)
+/* Reads the records of a table that is not too long. */
+static struct nos_checked read_table(struct record *records, const uint8_t *table, size_t length)
 {
-    t->count = 0;
-    if (length > NOS_LONGEST) return (struct nos_checked){.number = NOS_OVER_LENGTH};
-    for (size_t at = 0; at < length;) {
+    size_t count = 0;
+    for (size_t at = 0; at < length; count++) {
         struct record r;
-        size_t size = t->count < MOST_RECORDS ? read_record(table + at, length - at, &r) : 0;
-        if (size == 0 || find(t, r.name, r.name_length)) return (struct nos_checked){.number = NOS_BAD_TABLE, .place = at};
-        t->records[t->count++] = r;
+        size_t size = count < MOST_RECORDS ? read_record(table + at, length - at, &r) : 0;
+        if (size == 0 || find_in(records, count, r.name, r.name_length)) return (struct nos_checked){.number = NOS_BAD_TABLE, .place = at};
+        records[count] = r;
         at += size;
     }
-    return (struct nos_checked){.records = (uint32_t)t->count};
+    return (struct nos_checked){.records = (uint32_t)count};
 }
 
 static struct nos_checked check_table(const uint8_t *table, size_t length)
 {
-    struct table t;
-    return index_table(&t, table, length);
+    struct record records[MOST_RECORDS];
+    if (length > NOS_LONGEST) return (struct nos_checked){.number = NOS_OVER_LENGTH};
+    return read_table(records, table, length);
+}
+
+/* What is wrong with the length of a text or with its tables; the number is 0 where nothing is. */
+struct judged {
+    uint32_t number, counted;
+    size_t place;
+};
+
+static struct judged index_both(struct variables *all, size_t text_length, struct nos_tables lent)
+{
+    if (text_length > NOS_LONGEST) return (struct judged){NOS_OVER_LENGTH, NOS_IN_THE_TEXT, 0};
+    if (lent.farm_length > NOS_LONGEST) return (struct judged){NOS_OVER_LENGTH, NOS_IN_THE_FARM, 0};
+    if (lent.house_length > NOS_LONGEST) return (struct judged){NOS_OVER_LENGTH, NOS_IN_THE_HOUSE, 0};
+    struct nos_checked farm = read_table(all->records, lent.farm, lent.farm_length);
+    if (farm.number) return (struct judged){farm.number, NOS_IN_THE_FARM, farm.place};
+    struct nos_checked house = read_table(all->records + farm.records, lent.house, lent.house_length);
+    if (house.number) return (struct judged){house.number, NOS_IN_THE_HOUSE, house.place};
+    all->farms = farm.records;
+    all->count = farm.records + house.records;
+    return (struct judged){0};
+}
+
+static struct nos_variable look_up(const uint8_t *name, size_t name_length, const uint8_t *farm, size_t farm_length,
+                                   const uint8_t *house, size_t house_length)
+{
+    struct variables all;
+    struct judged judged = index_both(&all, 0, (struct nos_tables){farm, farm_length, house, house_length});
+    if (judged.number) return (struct nos_variable){.number = judged.number, .counted = judged.counted, .place = judged.place};
+    const struct record *r = find(&all, name, name_length);
+    if (!r) return (struct nos_variable){.number = NOS_UNKNOWN_NAME};
+    bool is_farms = r < all.records + all.farms;
+    const uint8_t *table = is_farms ? farm : house;
+    return (struct nos_variable){.counted = is_farms ? NOS_IN_THE_FARM : NOS_IN_THE_HOUSE, .place = (size_t)(r->name - 5 - table),
+                                 .kind = r->kind, .length = r->value_length, .start = (size_t)(r->value - table)};
 }
 
 static uint32_t integer_of(const struct record *r)
@@ -224,7 +266,7 @@ static uint32_t integer_of(const struct record *r)
 /* ---- GS strings. Two passes: with no output the first only counts, so that a refusal writes nothing. */
 
 struct work {
-    const struct table *table;
+    const struct variables *variables;
     unsigned left;
     uint8_t *out;
     size_t need;
@@ -340,7 +382,7 @@ static unsigned give_reference(struct work *w, struct reading *r, unsigned depth
         give(w, (uint8_t)read.value);
     } else {
         if (read.number == NOS_TOO_BIG) return NOS_TOO_BIG;
-        const struct record *v = find(w->table, content, length);
+        const struct record *v = find(w->variables, content, length);
         if (!v) return NOS_UNKNOWN_NAME;
         number = give_variable(w, v, depth);
         if (number) return number;
@@ -419,15 +461,14 @@ static struct nos_answer refused_text(unsigned number, unsigned counted, size_t 
     return (struct nos_answer){number, counted, place, need, room};
 }
 
-static struct nos_answer translate(const uint8_t *text, size_t length, const uint8_t *table, size_t table_length, uint32_t flags,
-                                   uint32_t allowance, uint8_t *out, size_t room)
+static struct nos_answer translate(const uint8_t *text, size_t length, const uint8_t *farm, size_t farm_length, const uint8_t *house,
+                                   size_t house_length, uint32_t flags, uint32_t allowance, uint8_t *out, size_t room)
 {
-    struct table t;
-    if (length > NOS_LONGEST) return refused_text(NOS_OVER_LENGTH, NOS_IN_THE_TEXT, 0, 0, room);
-    struct nos_checked checked = index_table(&t, table, table_length);
-    if (checked.number) return refused_text(checked.number, NOS_IN_THE_TABLE, checked.place, 0, room);
+    struct variables all;
+    struct judged judged = index_both(&all, length, (struct nos_tables){farm, farm_length, house, house_length});
+    if (judged.number) return refused_text(judged.number, judged.counted, judged.place, 0, room);
     unsigned left = allowance < MOST_LOOK_UPS ? allowance : MOST_LOOK_UPS;
-    struct work measure = {.table = &t, .left = left}, write = {.table = &t, .left = left, .out = out};
+    struct work measure = {.variables = &all, .left = left}, write = {.variables = &all, .left = left, .out = out};
     struct reading first = {.text = text, .length = length, .flags = flags}, second = first;
     unsigned number = expand(&measure, &first, 0);
     if (number) return refused_text(number, NOS_IN_THE_TEXT, first.at, 0, room);
@@ -454,7 +495,7 @@ struct token {
 struct parser {
     const uint8_t *text;
     size_t length;
-    const struct table *table;
+    const struct variables *variables;
     unsigned left;
     struct token token;
     unsigned wrong, refused;
@@ -606,10 +647,10 @@ static uint32_t apply(struct parser *p, enum operator operator, size_t place, ui
 
 static uint32_t expression(struct parser *p, unsigned level, unsigned depth);
 
-static uint32_t look_up(struct parser *p, const struct token *t)
+static uint32_t value_of_name(struct parser *p, const struct token *t)
 {
     if (p->refused) return 0;
-    const struct record *v = find(p->table, p->text + t->place, t->next - t->place);
+    const struct record *v = find(p->variables, p->text + t->place, t->next - t->place);
     if (!v) return refuse(p, NOS_UNKNOWN_NAME, t->place);
     if (v->kind != NOS_INTEGER) return refuse(p, NOS_NOT_AN_INTEGER, t->place);
     if (p->left == 0) return refuse(p, NOS_ALLOWANCE_SPENT, t->place);
@@ -643,7 +684,7 @@ static uint32_t operand(struct parser *p, unsigned depth)
     switch (t.kind) {
     case BAD_NUMBER: return wrong(p, t.number, t.next);
     case NAME:
-        value = look_up(p, &t);
+        value = value_of_name(p, &t);
         /* fall through */
     case NUMBER:
         read_token(p, t.next);
@@ -681,13 +722,13 @@ static struct nos_value refused_expression(unsigned number, unsigned counted, si
     return (struct nos_value){.number = number, .counted = counted, .place = place};
 }
 
-static struct nos_value evaluate(const uint8_t *text, size_t length, const uint8_t *table, size_t table_length, uint32_t allowance)
+static struct nos_value evaluate(const uint8_t *text, size_t length, const uint8_t *farm, size_t farm_length, const uint8_t *house,
+                                 size_t house_length, uint32_t allowance)
 {
-    struct table t;
-    if (length > NOS_LONGEST) return refused_expression(NOS_OVER_LENGTH, NOS_IN_THE_TEXT, 0);
-    struct nos_checked checked = index_table(&t, table, table_length);
-    if (checked.number) return refused_expression(checked.number, NOS_IN_THE_TABLE, checked.place);
-    struct parser p = {.text = text, .length = length, .table = &t};
+    struct variables all;
+    struct judged judged = index_both(&all, length, (struct nos_tables){farm, farm_length, house, house_length});
+    if (judged.number) return refused_expression(judged.number, judged.counted, judged.place);
+    struct parser p = {.text = text, .length = length, .variables = &all};
     p.left = allowance < MOST_LOOK_UPS ? allowance : MOST_LOOK_UPS;
     read_token(&p, 0);
     uint32_t value = expression(&p, LOOSEST, 0);
@@ -702,6 +743,7 @@ const struct calls PLAIN_NAME = {
     .convert = convert,
     .read_unsigned = read_unsigned,
     .check_table = check_table,
+    .look_up = look_up,
     .translate = translate,
     .evaluate = evaluate,
 };

@@ -56,5 +56,5 @@ uint64_t by_memcpy(struct input *in)
 
 uint64_t by_hash(struct input *in)
 {
-    return sum_of_checked(hashed_check_table(in->table, in->table_length));
+    return sum_of_checked(hashed_check_table(in->house, in->house_length));
 }

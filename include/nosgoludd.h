@@ -1,4 +1,4 @@
-/* Nosgoludd: numbers to strings, numbers read from texts, variables in a table, texts that name them, and expressions, whole or
+/* Nosgoludd: numbers to strings, numbers read from texts, variables in two tables, texts that name them, and expressions, whole or
  * refused.
  *
  * An office certifies organic farms from old diaries. Once a quantity fell across the end of a 1,048,576-byte buffer, the
@@ -12,7 +12,7 @@
  *
  * What the proof asks of you: a pointer points to as many bytes as the room or length behind it says, which may be read, and for
  * buf and out written. Nothing else (a thread, a shared mapping) writes any of them before the call returns, nor reads those of
- * buf and out; out overlaps neither text nor table. With a room or a length of 0 the pointer is not used and may be NULL: the
+ * buf and out; out overlaps neither text nor tables. With a room or a length of 0 the pointer is not used and may be NULL: the
  * compiled code was looked at for that, and examples/c runs every one so.
  *
  * What no proof can ask for you: give the true length of a text or a table, as long as it is. What is over 65,535 bytes is refused,
@@ -91,7 +91,11 @@ static inline const char *nos_words(uint32_t number)
 }
 
 /* What a place is counted in. Where a struct has no `counted` there is but one thing that it can be. */
-enum nos_counting { NOS_IN_THE_TEXT = 0, NOS_IN_THE_TABLE = 1 };
+enum nos_counting {
+    NOS_IN_THE_TEXT = 0,  /* the text or the name; nos_convert, which has neither, always gives it */
+    NOS_IN_THE_HOUSE = 1, /* the house table */
+    NOS_IN_THE_FARM = 2   /* the farm's own table */
+};
 
 /* Of nos_convert and nos_translate. */
 struct nos_answer {
@@ -213,16 +217,44 @@ enum nos_kind { NOS_STRING = 0, NOS_INTEGER = 1, NOS_MACRO = 2 };
  */
 struct nos_checked nos_check_table(const uint8_t *table, size_t length);
 
-/* Looks a name up in a table. The whole table is checked first. The name may be any bytes, and any number of them.
+/* The two tables that names are looked up in, each of them as by nos_check_table: a farm's own variables, and those of the house,
+ * which all farms share.
  *
- *   accepted   place: that of the record, its mark's first byte, and counted NOS_IN_THE_TABLE. kind: one of enum nos_kind. The
- *              value is the `length` bytes from `start` on, all of them inside the table
- *   refused    kind, length and start 0. The first of these that holds:
- *              18 NOS_OVER_LENGTH    as by nos_check_table, counted in the table
- *              13 NOS_BAD_TABLE      as by nos_check_table, counted in the table
- *              10 NOS_UNKNOWN_NAME   no record has an equal name; place 0, counted 0
+ * A name means the farm's record that has an equal name, whatever its kind; where there is none, the house's; else it is unknown. So
+ * an equal name in both is no fault: the farm's hides the house's. Within one table it still is. A macro of either table may use
+ * names of either: they are looked up as those of your text are. One look-up is taken out of the allowance for a name, wherever it
+ * ends, and none for an unknown one. The limits hold for each table: 65,535 bytes, 256 records. A table with no variables has the
+ * length 0, and its pointer may be NULL.
+ *
+ * Both tables are judged before anything is read, even where nothing is named, or where the farm's has the name. The first of these
+ * that holds is the answer, so that an over-long house table comes before a bad farm's table:
+ *   18 NOS_OVER_LENGTH   the text is longer than 65,535 bytes; the farm's table is; the house's is. Place 0, counted in that one
+ *   13 NOS_BAD_TABLE     the farm's table is bad; the house's is. The place as by nos_check_table, counted in that one
  */
-struct nos_variable nos_look_up(const uint8_t *name, size_t name_length, const uint8_t *table, size_t table_length);
+struct nos_tables {
+    const uint8_t *farm;
+    size_t farm_length;
+    const uint8_t *house;
+    size_t house_length;
+};
+
+/* A struct nos_tables as the four arguments of a call, nos_look_up(name, name_length, NOS_TABLES(tables)). Give it a variable: `t` is
+ * evaluated four times. */
+#define NOS_TABLES(t) (t).farm, (t).farm_length, (t).house, (t).house_length
+
+/* Looks a name up, in the farm's table and then in the house's. The name may be any bytes, and any number of them. It is no text: one
+ * over 32 bytes is unknown, and never refused by 18.
+ *
+ *   accepted   counted: the table that holds the record, NOS_IN_THE_FARM or NOS_IN_THE_HOUSE. place: that of the record, its mark's
+ *              first byte. kind: one of enum nos_kind. The value is `length` bytes, which may be none, all of them inside that table,
+ *              from (found.counted == NOS_IN_THE_FARM ? farm : house) + found.start on
+ *   refused    kind, length and start 0. The first of these that holds:
+ *              18 NOS_OVER_LENGTH    of the farm's table, of the house's: as for struct nos_tables
+ *              13 NOS_BAD_TABLE      likewise
+ *              10 NOS_UNKNOWN_NAME   no record of either has an equal name; place 0, counted 0
+ */
+struct nos_variable nos_look_up(const uint8_t *name, size_t name_length, const uint8_t *farm, size_t farm_length,
+                                const uint8_t *house, size_t house_length);
 
 /* The flags of a text. Other bits count for nothing. */
 #define NOS_SPACE_ENDS (1u << 29)   /* a space behind the leading ones and outside quotes ends the text */
@@ -258,13 +290,12 @@ struct nos_variable nos_look_up(const uint8_t *name, size_t name_length, const u
  *   accepted   place: the text's end, behind all spaces that were skipped, or that of the space that ended it. need, and free: room -
  *              need. Bytes of out behind the need stay as they were
  *   refused    every byte of out stays as it was; need 0 except for 1; free: the room. The first of these that holds:
- *              18 NOS_OVER_LENGTH       the text is longer than 65,535 bytes; place 0
- *              18 NOS_OVER_LENGTH       the table is; place 0, counted in the table
- *              13 NOS_BAD_TABLE         as by nos_check_table, the place counted in the table
+ *              18 NOS_OVER_LENGTH       of the text, of the farm's table, of the house's: as for struct nos_tables
+ *              13 NOS_BAD_TABLE         of the farm's table, of the house's: likewise
  *                 then the first of these that the reading meets from the left:
  *               9 NOS_BAD_REFERENCE     no name byte behind the "<", or no ">" behind those; the "<"
  *               4 NOS_TOO_BIG           its number is over 4,294,967,295; the "<"
- *              10 NOS_UNKNOWN_NAME      no record has an equal name; the "<"
+ *              10 NOS_UNKNOWN_NAME      no record of either table has an equal name; the "<"
  *              11 NOS_TOO_DEEP          a macro named at level 16, your text being level 0; the "<"
  *              12 NOS_ALLOWANCE_SPENT   no look-up is left for the name; the "<"
  *               7 NOS_BAD_CODE          the "|", of "|!|" the first
@@ -273,9 +304,10 @@ struct nos_variable nos_look_up(const uint8_t *name, size_t name_length, const u
  *               1 NOS_NO_ROOM           the room is less than the need, which is in the answer; place 0
  *              At one reference 9, 4, 10, 11, 12 come in this order. A refusal inside a macro has its own number, and the place of
  *              the "<" in your text that led there.
- * counted is 0 but where the table is named.
+ * counted is 0 but where a table is refused.
  *
- * With a string a, the byte x, and a macro m, the bytes <A>| and no more; with no flags, allowance 2 and room 2:
+ * With a string a in both tables, the farm's the byte x, the house's the byte y, and a macro m of the house, the bytes <A>| and no
+ * more; with no flags, allowance 2 and room 2:
  *   <A>b         xb, place 4, need 2, free 0              b<m>           refused 7 at 1, for the bar in the macro
  *   |!|@         the byte 128, place 4, need 1, free 1    b<c>           refused 10 at 1
  *   <321>        A, place 5, need 1, free 1               <a><a><a>      refused 12 at 6
@@ -283,8 +315,8 @@ struct nos_variable nos_look_up(const uint8_t *name, size_t name_length, const u
  *   "b"  c       refused 8 at 5; with NOS_SPACE_ENDS      a<             refused 9 at 1
  *                b, place 3, need 1, free 1               <A>bc          refused 1, need 3, free 2, out as it was
  */
-struct nos_answer nos_translate(const uint8_t *text, size_t length, const uint8_t *table, size_t table_length, uint32_t flags,
-                                uint32_t allowance, uint8_t *out, size_t room);
+struct nos_answer nos_translate(const uint8_t *text, size_t length, const uint8_t *farm, size_t farm_length, const uint8_t *house,
+                                size_t house_length, uint32_t flags, uint32_t allowance, uint8_t *out, size_t room);
 
 /* Evaluates an expression of signed 32-bit numbers.
  *
@@ -303,13 +335,12 @@ struct nos_answer nos_translate(const uint8_t *text, size_t length, const uint8_
  *   OR EOR
  * The lowest number over -1 gives itself, and its MOD -1 is 0.
  *
- * A name must be an integer variable of the table, and takes one look-up out of the allowance; over 1,024 counts as 1,024.
+ * A name must be an integer variable, and takes one look-up out of the allowance; over 1,024 counts as 1,024.
  *
  *   accepted   value, and place: the text's end, behind all spaces
  *   refused    value 0. The first of these that holds:
- *              18 NOS_OVER_LENGTH       the text is longer than 65,535 bytes; place 0
- *              18 NOS_OVER_LENGTH       the table is; place 0, counted in the table
- *              13 NOS_BAD_TABLE         as by nos_check_table, the place counted in the table
+ *              18 NOS_OVER_LENGTH       of the text, of the farm's table, of the house's: as for struct nos_tables
+ *              13 NOS_BAD_TABLE         of the farm's table, of the house's: likewise
  *                 then the first of these that the tokens meet from the left, wherever it stands:
  *              15 NOS_BAD_EXPRESSION    a token that cannot stand there, a byte that starts none, the end too early; its place
  *              11 NOS_TOO_DEEP          the 17th unary operator or bracket over one operand; its place
@@ -317,8 +348,8 @@ struct nos_answer nos_translate(const uint8_t *text, size_t length, const uint8_
  *               3 NOS_BAD_BASE
  *               4 NOS_TOO_BIG
  *                 then the first of these that the evaluation meets, operands from the left and each operator behind its operands:
- *              10 NOS_UNKNOWN_NAME      no record has an equal name; the name
- *              17 NOS_NOT_AN_INTEGER    a string or a macro; the name
+ *              10 NOS_UNKNOWN_NAME      no record of either table has an equal name; the name
+ *              17 NOS_NOT_AN_INTEGER    a string or a macro, also where it hides an integer of the house; the name
  *              12 NOS_ALLOWANCE_SPENT   no look-up is left for the name; the name
  *              16 NOS_ZERO_DIVISOR      the right side of / or MOD is zero; the operator
  *
@@ -327,7 +358,8 @@ struct nos_answer nos_translate(const uint8_t *text, size_t length, const uint8_
  *   1=1=1          0 at 5                  12abc     refused 15 at 2
  *   -8>>1          -4 at 5                 &         refused 2 at 1
  */
-struct nos_value nos_evaluate(const uint8_t *text, size_t length, const uint8_t *table, size_t table_length, uint32_t allowance);
+struct nos_value nos_evaluate(const uint8_t *text, size_t length, const uint8_t *farm, size_t farm_length, const uint8_t *house,
+                              size_t house_length, uint32_t allowance);
 
 #ifdef __cplusplus
 }

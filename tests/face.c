@@ -23,7 +23,7 @@ struct area {
     const char *digits; /* what was lent to be read, in hex; NULL for a buffer */
 };
 
-static struct area text, table, buffer;
+static struct area text, farm, house, buffer; /* a name is lent as a text, and a table that is alone as the house's */
 static uint8_t known[AREA + TURNS]; /* the known bytes, read from another place for each case */
 static size_t turn;
 
@@ -198,64 +198,85 @@ static bool read_number(struct line line)
 
 static bool check(struct line line)
 {
-    take_bytes(&line, &table);
+    take_bytes(&line, &house);
     if (!is_done(&line)) return false;
-    struct nos_checked answer = nos_check_table(lent_by(&table), table.length);
+    struct nos_checked answer = nos_check_table(lent_by(&house), house.length);
     if (answer.number == NOS_ACCEPTED) {
         printf("ok %" PRIu32, answer.records);
-        return end_line(is_whole(&table), answer.place == 0);
+        return end_line(is_whole(&house), answer.place == 0);
     }
     printf("no %" PRIu32 " %zu", answer.number, answer.place);
-    return end_line(is_whole(&table), answer.records == 0);
+    return end_line(is_whole(&house), answer.records == 0);
 }
 
-/* Whether a variable that was found has its value where its record says. */
+static struct nos_tables both_tables(void)
+{
+    struct nos_tables tables = {lent_by(&farm), farm.length, lent_by(&house), house.length};
+    return tables;
+}
+
+static bool are_whole(void) { return is_whole(&text) && is_whole(&farm) && is_whole(&house); }
+
+/* The letter for what a place is counted in. No line of answer has a "?". */
+static char counted_in(uint32_t counted) { return counted <= NOS_IN_THE_FARM ? "thf"[counted] : '?'; }
+
+/* The table that a variable was found in. */
+static const struct area *holder_of(struct nos_variable found) { return found.counted == NOS_IN_THE_FARM ? &farm : &house; }
+
+/* Whether a variable that was found has its kind, and its value where its record says, in the table that the answer names. */
 static bool is_in_its_record(struct nos_variable found)
 {
-    if (found.counted != NOS_IN_THE_TABLE || found.place + 5 > table.length) return false;
-    const uint8_t *record = table.lent + found.place;
-    return found.start == found.place + 5 + record[3] && found.length == record[4] && found.start + found.length <= table.length;
-}
-
-/* The line does not tell a bad table from an unknown name; the answer does. */
-static bool is_not_found(struct nos_variable answer)
-{
-    struct nos_checked checked = nos_check_table(lent_by(&table), table.length);
-    bool good = checked.number == NOS_ACCEPTED;
-    if (answer.kind != 0 || answer.length != 0 || answer.start != 0 || answer.place != checked.place) return false;
-    return answer.number == (good ? (uint32_t)NOS_UNKNOWN_NAME : checked.number)
-        && answer.counted == (good ? NOS_IN_THE_TEXT : NOS_IN_THE_TABLE);
+    const struct area *table = holder_of(found);
+    if (found.counted == NOS_IN_THE_TEXT || table->length < 5 || found.place > table->length - 5) return false;
+    const uint8_t *record = table->lent + found.place;
+    return found.kind == record[2] && found.start == found.place + 5 + record[3] && found.length == record[4]
+        && found.start + found.length <= table->length;
 }
 
 static bool look(struct line line)
 {
-    take_bytes(&line, &table);
+    take_bytes(&line, &farm);
+    take_bytes(&line, &house);
     take_bytes(&line, &text);
     if (!is_done(&line)) return false;
-    struct nos_variable answer = nos_look_up(lent_by(&text), text.length, lent_by(&table), table.length);
-    bool as_said = answer.number == NOS_ACCEPTED ? is_in_its_record(answer) : is_not_found(answer);
-    if (answer.number != NOS_ACCEPTED) {
-        printf("none");
-    } else {
-        printf("rec %zu %" PRIu32 " ", answer.place, answer.kind);
-        if (as_said) put_hex(table.lent + answer.start, answer.length);
+    struct nos_tables tables = both_tables();
+    struct nos_variable answer = nos_look_up(lent_by(&text), text.length, NOS_TABLES(tables));
+    if (answer.number == NOS_ACCEPTED) {
+        bool as_said = is_in_its_record(answer);
+        printf("rec %c %zu %" PRIu32 " ", counted_in(answer.counted), answer.place, answer.kind);
+        if (as_said) put_hex(holder_of(answer)->lent + answer.start, answer.length);
+        return end_line(are_whole(), as_said);
     }
-    return end_line(is_whole(&table) && is_whole(&text), as_said);
+    bool as_said = answer.kind == 0 && answer.length == 0 && answer.start == 0;
+    if (answer.number == NOS_UNKNOWN_NAME) {
+        printf("none");
+        as_said = as_said && answer.counted == NOS_IN_THE_TEXT && answer.place == 0;
+    } else {
+        printf("no %" PRIu32 " %c %zu", answer.number, counted_in(answer.counted), answer.place);
+    }
+    return end_line(are_whole(), as_said);
 }
 
-static char counted_in(uint32_t counted) { return counted == NOS_IN_THE_TABLE ? 'r' : 't'; }
+/* The field for an index, which no operation takes: an "x". */
+static void take_no_index(struct line *line)
+{
+    if (line->at != NULL) line->at = strncmp(line->at, " x", 2) == 0 ? line->at + 2 : NULL;
+}
 
 static bool trans(struct line line)
 {
     take_bytes(&line, &text);
-    take_bytes(&line, &table);
+    take_bytes(&line, &farm);
+    take_bytes(&line, &house);
+    take_no_index(&line);
     uint32_t flags = take_number(&line), allowance = take_number(&line), room = take_number(&line);
     if (!is_done(&line) || room > MOST_ROOM) return false;
     lend(&buffer, room);
-    struct nos_answer answer = nos_translate(lent_by(&text), text.length, lent_by(&table), table.length, flags, allowance,
-                                             lent_by(&buffer), room);
+    struct nos_tables tables = both_tables();
+    struct nos_answer answer = nos_translate(lent_by(&text), text.length, NOS_TABLES(tables), flags, allowance, lent_by(&buffer),
+                                             room);
     size_t written = 0;
-    bool as_said = answer.counted <= NOS_IN_THE_TABLE;
+    bool as_said = true;
     if (answer.number == NOS_ACCEPTED) {
         written = answer.need <= room ? answer.need : room;
         printf("ok ");
@@ -265,25 +286,24 @@ static bool trans(struct line line)
     } else {
         printf("no %" PRIu32 " %c %zu %zu %zu", answer.number, counted_in(answer.counted), answer.place, answer.need, answer.free);
     }
-    return end_line(is_whole(&text) && is_whole(&table) && is_whole_behind(&buffer, written), as_said);
+    return end_line(are_whole() && is_whole_behind(&buffer, written), as_said);
 }
 
 static bool eval(struct line line)
 {
     take_bytes(&line, &text);
-    take_bytes(&line, &table);
+    take_bytes(&line, &farm);
+    take_bytes(&line, &house);
     uint32_t allowance = take_number(&line);
     if (!is_done(&line)) return false;
-    struct nos_value answer = nos_evaluate(lent_by(&text), text.length, lent_by(&table), table.length, allowance);
-    bool as_said = answer.counted <= NOS_IN_THE_TABLE;
+    struct nos_tables tables = both_tables();
+    struct nos_value answer = nos_evaluate(lent_by(&text), text.length, NOS_TABLES(tables), allowance);
     if (answer.number == NOS_ACCEPTED) {
-        printf("val %" PRId32 " %zu", answer.value, answer.place);
-        as_said = answer.counted == NOS_IN_THE_TEXT;
-    } else {
-        printf("no %" PRIu32 " %c %zu", answer.number, counted_in(answer.counted), answer.place);
-        as_said = as_said && answer.value == 0;
+        printf("int %" PRId32 " %zu", answer.value, answer.place);
+        return end_line(are_whole(), answer.counted == NOS_IN_THE_TEXT);
     }
-    return end_line(is_whole(&text) && is_whole(&table), as_said);
+    printf("no %" PRIu32 " %c %zu", answer.number, counted_in(answer.counted), answer.place);
+    return end_line(are_whole(), answer.value == 0);
 }
 
 static bool answer_line(const char *line)
@@ -301,7 +321,8 @@ static bool answer_line(const char *line)
 int main(void)
 {
     make_area(&text);
-    make_area(&table);
+    make_area(&farm);
+    make_area(&house);
     make_area(&buffer);
     for (size_t i = 0; i < sizeof known; i++) known[i] = (uint8_t)(0x5A + i * 167 + i / 256 * 59);
     setvbuf(stdout, NULL, _IOLBF, 1 << 16); /* so that the last answer shows which case ended the program */

@@ -1,6 +1,7 @@
 /* Measures how much stack a call of the library takes: each one runs on a stack of its own, filled with a known byte, and the lowest
  * byte that changed tells. The inputs are the deepest that there are: macros in macros and brackets in brackets, 16 of them, around
- * what each level can hold. Ends with status 1 where more than NOS_STACK was taken. tests/stack runs it. */
+ * what each level can hold, over two tables of 256 records each. Ends with status 1 where more than NOS_STACK was taken. tests/stack
+ * runs it. */
 #define _GNU_SOURCE
 #include <inttypes.h>
 #include <stdio.h>
@@ -13,9 +14,10 @@
 
 enum { STACK = 1 << 20, FILL = 0xA5, DEEPEST = 16 };
 
-static uint8_t *stack, table[NOS_LONGEST], out[1 << 19];
+static uint8_t *stack, farm[NOS_LONGEST], house[NOS_LONGEST], out[1 << 19];
+static struct nos_tables tables = {farm, 0, house, 0};
 static char text[NOS_LONGEST];
-static size_t table_length, most;
+static size_t most;
 static ucontext_t here, there;
 static void (*current)(void);
 
@@ -66,44 +68,67 @@ static void readings(void)
         nos_read_unsigned((const uint8_t *)numbers[i], strlen(numbers[i]), 1, 7);
 }
 
-static void add_record(uint8_t kind, const char *name, const char *value, size_t length)
+static void add_record(uint8_t *table, size_t *at, uint8_t kind, const char *name, const char *value, size_t length)
 {
     const uint8_t head[] = {86, 82, kind, (uint8_t)strlen(name), (uint8_t)length};
-    memcpy(table + table_length, head, 5);
-    memcpy(table + table_length + 5, name, head[3]);
-    memcpy(table + table_length + 5 + head[3], value, length);
-    table_length += 5u + head[3] + length;
+    memcpy(table + *at, head, 5);
+    memcpy(table + *at + 5, name, head[3]);
+    memcpy(table + *at + 5 + head[3], value, length);
+    *at += 5u + head[3] + length;
 }
 
-/* Macros m0 to m16, each naming the one before it, a string, an integer, and names alike up to 256 records. */
-static void make_table(void)
+/* Brings a table of so many records up to 256, by names that differ in their last digits alone. */
+static void fill_up(uint8_t *table, size_t *at, int records, int first)
+{
+    char name[33];
+    for (int i = records; i < 256; i++) {
+        sprintf(name, "Certified$Fields$Diary$Entry%04d", first + i);
+        add_record(table, at, NOS_STRING, name, "v", 1);
+    }
+}
+
+/* A string and an integer of the house, and macros m0 to m16, each naming the one before it, which stands in the other table: the
+ * house has the even ones, the farm the odd ones. All names of the house are sought among the farm's 256 records first. */
+static void make_tables(void)
 {
     char name[33], value[256];
-    add_record(NOS_STRING, "s", "a string of some length, to be copied", 37);
-    add_record(NOS_INTEGER, "i", "\x00\x00\x00\x80", 4);
-    add_record(NOS_MACRO, "m0", "\"a |!|@ <s> \"\"<i> <65> <2_1000001> rows of rye\"", 47);
+    add_record(house, &tables.house_length, NOS_STRING, "s", "a string of some length, to be copied", 37);
+    add_record(house, &tables.house_length, NOS_INTEGER, "i", "\x00\x00\x00\x80", 4);
+    add_record(house, &tables.house_length, NOS_MACRO, "m0", "\"a |!|@ <s> \"\"<i> <65> <2_1000001> rows of rye\"", 47);
     for (int i = 1; i <= DEEPEST; i++) {
         sprintf(name, "m%d", i);
         sprintf(value, "\"a |!|@ <s><i><36_Z> and so on with more than sixteen bytes<m%d>\"\"|?\"", i - 1);
-        add_record(NOS_MACRO, name, value, strlen(value));
+        add_record(i % 2 ? farm : house, i % 2 ? &tables.farm_length : &tables.house_length, NOS_MACRO, name, value, strlen(value));
     }
-    for (int i = 3 + DEEPEST; i < 256; i++) {
-        sprintf(name, "Certified$Fields$Diary$Entry%04d", i);
-        add_record(NOS_STRING, name, "v", 1);
-    }
+    fill_up(farm, &tables.farm_length, DEEPEST / 2, 0);
+    fill_up(house, &tables.house_length, 3 + DEEPEST / 2, 256);
 }
 
-static void check(void) { expect(nos_check_table(table, table_length).number, 0); }
+static void expect_full(const uint8_t *table, size_t length)
+{
+    struct nos_checked answer = nos_check_table(table, length);
+    expect(answer.number, 0);
+    if (answer.records == 256) return;
+    printf("OFF: %" PRIu32 " records in a table\n", answer.records);
+    exit(1);
+}
+
+static void check(void)
+{
+    expect_full(farm, tables.farm_length);
+    expect_full(house, tables.house_length);
+}
 
 static void look_up(void)
 {
-    expect(nos_look_up((const uint8_t *)"CERTIFIED$Fields$Diary$Entry0255", 32, table, table_length).number, 0);
-    expect(nos_look_up((const uint8_t *)"nobody", 6, table, table_length).number, NOS_UNKNOWN_NAME);
+    expect(nos_look_up((const uint8_t *)"CERTIFIED$Fields$Diary$Entry0255", 32, NOS_TABLES(tables)).number, 0);
+    expect(nos_look_up((const uint8_t *)"CERTIFIED$Fields$Diary$Entry0511", 32, NOS_TABLES(tables)).number, 0);
+    expect(nos_look_up((const uint8_t *)"nobody", 6, NOS_TABLES(tables)).number, NOS_UNKNOWN_NAME);
 }
 
 static uint32_t translated(const char *of, uint32_t flags, uint32_t allowance, size_t room)
 {
-    return nos_translate((const uint8_t *)of, strlen(of), table, table_length, flags, allowance, out, room).number;
+    return nos_translate((const uint8_t *)of, strlen(of), NOS_TABLES(tables), flags, allowance, out, room).number;
 }
 
 static void translations(void)
@@ -117,7 +142,7 @@ static void translations(void)
 
 static uint32_t evaluated(void)
 {
-    return nos_evaluate((const uint8_t *)text, strlen(text), table, table_length, 1024).number;
+    return nos_evaluate((const uint8_t *)text, strlen(text), NOS_TABLES(tables), 1024).number;
 }
 
 /* A part so many times, what stands inside, and its close as many times. */
@@ -156,12 +181,12 @@ int main(void)
 {
     stack = (uint8_t *)mmap(NULL, STACK, PROT_READ | PROT_WRITE, MAP_PRIVATE | MAP_ANONYMOUS, -1, 0);
     if (stack == MAP_FAILED) return 2;
-    make_table();
+    make_tables();
     measure("nothing", nothing);
     measure("nos_convert", conversions);
     measure("nos_read_unsigned", readings);
     measure("nos_check_table, 256 records", check);
-    measure("nos_look_up, 256 records", look_up);
+    measure("nos_look_up, 256 records in each table", look_up);
     measure("nos_translate, 16 macros in one another", translations);
     measure("nos_evaluate, 16 brackets in one another", brackets);
     measure("nos_evaluate, 16 signs over one operand", signs);

@@ -8,11 +8,16 @@
 
 #include "nosgoludd.h"
 
-/* Two records: V, R, kind, name length, value length, name, value. An integer has its lowest byte first: 0x00100000 is 1048576. */
-static const char table[] = "VR\x00\x09\x09" "Farm$Name" "Lower Ash"
-                            "VR\x01\x08\x04" "Quantity" "\x00\x00\x10\x00";
+/* A record: V, R, kind, name length, value length, name, value. An integer has its lowest byte first: 0x00100000 is 1048576. The farm
+ * gives its name and the quantity; the house has a name for the farms that give none, and the unit. */
+static const char farm[] = "VR\x00\x09\x09" "Farm$Name" "Lower Ash"
+                           "VR\x01\x08\x04" "Quantity" "\x00\x00\x10\x00";
+static const char house[] = "VR\x00\x09\x07" "Farm$Name" "Unnamed"
+                            "VR\x00\x04\x02" "Unit" "kg";
 
-static const char row[] = "<Farm$Name>: <Quantity> kg", wrong[] = "96 kg to <Farm$Nmae>", whole[] = "Lower Ash: 1048576 kg";
+static const struct nos_tables tables = {(const uint8_t *)farm, sizeof farm - 1, (const uint8_t *)house, sizeof house - 1};
+
+static const char row[] = "<Farm$Name>: <Quantity> <Unit>", wrong[] = "96 kg to <Farm$Nmae>", whole[] = "Lower Ash: 1048576 kg";
 
 enum { PAPER = 64, SHORT = 16 };
 
@@ -30,7 +35,7 @@ static struct nos_answer translate(const char *text, size_t room)
 {
     check(room <= PAPER, "no more is lent than there is");
     memset(paper, '.', PAPER);
-    return nos_translate((const uint8_t *)text, strlen(text), (const uint8_t *)table, sizeof table - 1, 0, 8, paper, room);
+    return nos_translate((const uint8_t *)text, strlen(text), NOS_TABLES(tables), 0, 8, paper, room);
 }
 
 /* The whole row stands on the paper, and nothing was written behind it. */
@@ -44,8 +49,9 @@ static void check_whole(struct nos_answer answer)
 int main(void)
 {
     memset(clean, '.', PAPER);
-    printf("A row of the diary:  %s\n", row);
-    printf("Its variables:       Farm$Name is Lower Ash, Quantity is 1048576\n\n");
+    printf("A row of the diary:     %s\n", row);
+    printf("The farm's variables:   Farm$Name is Lower Ash, Quantity is 1048576\n");
+    printf("The house's variables:  Farm$Name is Unnamed, Unit is kg\n\n");
 
     struct nos_answer answer = translate(row, PAPER);
     check_whole(answer);

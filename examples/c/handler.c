@@ -48,13 +48,21 @@ static struct error_block block_of(uint32_t refusal, const char *message)
 
 static struct served error(uint32_t refusal, uint32_t need)
 {
-    struct served served = {RAISED, refusal, need, block_of(refusal, message_of(refusal))};
+    struct served served = {RAISED, refusal, NOS_IN_THE_TEXT, need, block_of(refusal, message_of(refusal))};
+    return served;
+}
+
+/* A refusal of a string or an expression, or of one of the tables that it is read with: then the host learns which. */
+static struct served error_in(uint32_t refusal, uint32_t counted)
+{
+    struct served served = error(refusal, 0);
+    served.counted = counted;
     return served;
 }
 
 static struct served ended(enum ending ending)
 {
-    struct served served = {ending, 0, 0, {0, ""}};
+    struct served served = {ending, 0, 0, 0, {0, ""}};
     return served;
 }
 
@@ -156,17 +164,17 @@ static struct served gs_trans(const struct machine *machine, struct registers *r
     uint32_t size = registers->r[2] & ~FLAG_BITS, flags = registers->r[2] & FLAG_BITS, buffer = registers->r[1];
     if (!take_string(machine, registers->r[0], &string) || !is_memory(machine, buffer, size)) return error(BAD_ADDRESS, 0);
     size_t room = size > 0 ? size - 1 : 0; /* without the terminator */
-    struct nos_answer answer = nos_translate(string.bytes, string.length, machine->table, machine->table_length, flags,
-                                             machine->allowance, machine->memory + buffer, room);
+    struct nos_answer answer = nos_translate(string.bytes, string.length, NOS_TABLES(machine->tables), flags, machine->allowance,
+                                             machine->memory + buffer, room);
     uint32_t need = (uint32_t)answer.need;
     if (answer.number == NOS_NO_ROOM || (answer.number == NOS_ACCEPTED && size == 0)) {
-        struct served too_short = {SERVED, NOS_NO_ROOM, need + 1, {0, ""}};
+        struct served too_short = {SERVED, NOS_NO_ROOM, NOS_IN_THE_TEXT, need + 1, {0, ""}};
         registers->r[1] = 0;
         registers->r[2] = size + 1;
         registers->carry = true;
         return too_short;
     }
-    if (answer.number != NOS_ACCEPTED) return error(answer.number, 0);
+    if (answer.number != NOS_ACCEPTED) return error_in(answer.number, answer.counted);
     machine->memory[buffer + need] = string.bytes[answer.place];
     registers->r[0] += (uint32_t)answer.place + 1;
     registers->r[2] = need;
@@ -199,8 +207,8 @@ static struct served evaluate(const struct machine *machine, struct registers *r
 {
     struct string string;
     if (!take_string(machine, registers->r[0], &string)) return error(BAD_ADDRESS, 0);
-    struct nos_value answer = nos_evaluate(string.bytes, string.length, machine->table, machine->table_length, machine->allowance);
-    if (answer.number != NOS_ACCEPTED) return error(answer.number, 0);
+    struct nos_value answer = nos_evaluate(string.bytes, string.length, NOS_TABLES(machine->tables), machine->allowance);
+    if (answer.number != NOS_ACCEPTED) return error_in(answer.number, answer.counted);
     registers->r[1] = 0;
     registers->r[2] = (uint32_t)answer.value;
     return ended(SERVED);

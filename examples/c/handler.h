@@ -24,12 +24,12 @@ extern "C" {
 
 /* What the emulator lends to the handler for one call. */
 struct machine {
-    uint8_t *memory;      /* the emulated memory: the byte of address 0 first */
-    uint32_t size;        /* its bytes; addresses from here on are no memory */
-    const uint8_t *table; /* the system variables, as by nos_check_table; the host keeps them, outside of `memory` */
-    size_t table_length;
-    uint32_t allowance;   /* how many look-ups one string or expression may take */
-    uint32_t error_at;    /* the address of ERROR_ROOM bytes for error blocks, which no program lends as a buffer */
+    uint8_t *memory;          /* the emulated memory: the byte of address 0 first */
+    uint32_t size;            /* its bytes; addresses from here on are no memory */
+    struct nos_tables tables; /* the system variables: the machine's own are the farm's, those that all machines share the house's;
+                               * the host keeps them, outside of `memory` */
+    uint32_t allowance;       /* how many look-ups one string or expression may take */
+    uint32_t error_at;        /* the address of ERROR_ROOM bytes for error blocks, which no program lends as a buffer */
 };
 
 /* What the calls read and change of the ARM's registers: R0 to R2, and the C and V flags. */
@@ -62,10 +62,12 @@ enum ending {
     NO_BLOCK  /* the host's own fault: `error_at` is not ERROR_ROOM bytes of memory. Nothing was changed */
 };
 
-/* What became of a call. The program's conventions have no place for the need; the host finds it here, whatever the call. */
+/* What became of a call. The program's conventions have no place for the need, nor for which table is bad; the host finds both
+ * here, whatever the call. */
 struct served {
     enum ending ending;
     uint32_t refusal;         /* by enum nos_refusal, or BAD_ADDRESS; 0: none */
+    uint32_t counted;         /* NOS_IN_THE_FARM or NOS_IN_THE_HOUSE where that table was refused, by 13 or 18. Otherwise 0 */
     uint32_t need;            /* with NOS_NO_ROOM: the buffer size, in R2 on entry, that would have been enough. Otherwise 0 */
     struct error_block error; /* where RETURNED or RAISED: a copy of the block in memory */
 };

@@ -20,15 +20,25 @@ static uint8_t host[MARGIN + SIZE + MARGIN], as_it_was[sizeof host];
 static uint8_t *const memory = host + MARGIN;
 static size_t tests;
 
-/* A string Farm, an integer Sum of -1250, a macro Head and a macro Loop that names itself. */
-static uint8_t table[] = {
+/* The machine's own: a string Farm, an integer Sum of -1250, a macro Page with a name of the house, a macro Loop in itself. */
+static uint8_t farm[] = {
     86, 82, 0, 4, 3, 'F', 'a', 'r', 'm', 'A', 's', 'h',
     86, 82, 1, 3, 4, 'S', 'u', 'm', 0x1E, 0xFB, 0xFF, 0xFF,
-    86, 82, 2, 4, 7, 'H', 'e', 'a', 'd', '<', 'F', 'a', 'r', 'm', '>', '!',
+    86, 82, 2, 4, 6, 'P', 'a', 'g', 'e', '<', 'Y', 'e', 'a', 'r', '>',
     86, 82, 2, 4, 6, 'L', 'o', 'o', 'p', '<', 'L', 'o', 'o', 'p', '>',
 };
 
-static const struct machine usual = {host + MARGIN, SIZE, table, sizeof table, 1024, ERRORS};
+/* The house's: a macro Head with a name of both, strings Farm and Sum, which the machine's own hide, an integer Year of 1989. */
+static uint8_t house[] = {
+    86, 82, 2, 4, 7, 'H', 'e', 'a', 'd', '<', 'F', 'a', 'r', 'm', '>', '!',
+    86, 82, 0, 4, 1, 'F', 'a', 'r', 'm', '?',
+    86, 82, 0, 3, 4, 'S', 'u', 'm', 'n', 'o', 'n', 'e',
+    86, 82, 1, 4, 4, 'Y', 'e', 'a', 'r', 0xC5, 0x07, 0x00, 0x00,
+};
+
+static uint8_t too_long[NOS_LONGEST + 1];
+
+static const struct machine usual = {host + MARGIN, SIZE, {farm, sizeof farm, house, sizeof house}, 1024, ERRORS};
 
 static void check(bool holds, const char *what, const char *claim)
 {
@@ -67,6 +77,7 @@ static void print(const struct test *test, const struct served *served, const st
         printf(", R0 &%" PRIX32 " R1 &%" PRIX32 " R2 &%" PRIX32 "%s", registers->r[0], registers->r[1], registers->r[2],
                (test->swi & ~X) != 0x27 ? "" : registers->carry ? ", C set" : ", C clear");
     if (served->refusal != 0) printf(", refusal %" PRIu32, served->refusal);
+    if (served->counted != NOS_IN_THE_TEXT) printf(" of the %s table", served->counted == NOS_IN_THE_FARM ? "farm's" : "house");
     if (served->need != 0) printf(", need %" PRIu32, served->need);
     if (served->error.number != 0) printf(", %s", served->error.message);
     putchar('\n');
@@ -110,6 +121,7 @@ static void run_on(const struct machine *machine, const struct test *test, bool 
     print(test, &served, &registers);
     check(served.ending == test->served.ending, test->what, "the ending");
     check(served.refusal == test->served.refusal, test->what, "the refusal");
+    check(served.counted == test->served.counted, test->what, "the table that was refused");
     check(served.need == test->served.need, test->what, "the need");
     check(memcmp(registers.r, expected.r, sizeof expected.r) == 0, test->what, "the registers");
     check(registers.carry == expected.carry && registers.overflow == expected.overflow, test->what, "the flags");
@@ -128,11 +140,15 @@ static void run(const struct machine *machine, const struct test *list, size_t c
 }
 
 #define RUN(list) run(&usual, list, sizeof list / sizeof list[0])
-#define DONE {SERVED, 0, 0, {0, ""}}
-#define SHORT(need) {SERVED, NOS_NO_ROOM, need, {0, ""}}
+#define ENDED(ending) {ending, 0, 0, 0, {0, ""}}
+#define DONE ENDED(SERVED)
+#define SHORT(need) {SERVED, NOS_NO_ROOM, 0, need, {0, ""}}
 #define LONG "Text or table over 65,535 bytes"
 #define FAILS(what, swi, text, text_at, r0, r1, r2, refusal, need, message) \
-    {what, swi, text, text_at, r0, r1, r2, {(swi) & X ? RETURNED : RAISED, refusal, need, {0, message}}, 0, 0, 0, 0, NULL, 0, 0}
+    {what, swi, text, text_at, r0, r1, r2, {(swi) & X ? RETURNED : RAISED, refusal, 0, need, {0, message}}, 0, 0, 0, 0, NULL, 0, 0}
+#define BAD(what, swi, text, refusal, counted, message) \
+    {what, swi, text, TEXT, TEXT, BUFFER, 64, {(swi) & X ? RETURNED : RAISED, refusal, counted, 0, {0, message}}, \
+     0, 0, 0, 0, NULL, 0, 0}
 
 static void read_unsigned(void)
 {
@@ -180,6 +196,9 @@ static void gs_trans(void)
         {"codes", 0x27, "a|Jb<65>\r", TEXT, TEXT, BUFFER, 64, DONE, TEXT + 9, BUFFER, 4, 0, "a\nbA\r", BUFFER, 5},
         {"variables", X + 0x27, "<head> <SUM>\n", TEXT, TEXT, BUFFER, 64, DONE, TEXT + 13, BUFFER, 10, 0, "Ash! -1250\n", BUFFER,
          11},
+        {"a name of the house", 0x27, "<YEAR>\r", TEXT, TEXT, BUFFER, 64, DONE, TEXT + 7, BUFFER, 4, 0, "1989\r", BUFFER, 5},
+        {"the same in a macro of the farm", X + 0x27, "<page>\r", TEXT, TEXT, BUFFER, 64, DONE, TEXT + 7, BUFFER, 4, 0, "1989\r",
+         BUFFER, 5},
         {"the string's length and 1", 0x27, "<head>\r", TEXT, TEXT, BUFFER, 5, DONE, TEXT + 7, BUFFER, 4, 0, "Ash!\r", BUFFER, 5},
         {"one byte too few", 0x27, "<head>\r", TEXT, TEXT, BUFFER, 4, SHORT(5), TEXT, 0, 5, 1, NULL, 0, 0},
         {"no buffer", X + 0x27, "<head>\r", TEXT, TEXT, BUFFER, 0, SHORT(5), TEXT, 0, 1, 1, NULL, 0, 0},
@@ -233,6 +252,7 @@ static void evaluate(void)
         FAILS("a string with no end", X + 0x2D, "-7 MOD 2", TEXT, TEXT, BUFFER, 8, 18, 0, LONG),
         {"-7 MOD 2", X + 0x2D, "-7 MOD 2\n", TEXT, TEXT, BUFFER, 8, DONE, TEXT, 0, (uint32_t)-1, 0, NULL, 0, 0},
         {"a variable", 0x2D, "(sum+1250)=0\r", TEXT, TEXT, BUFFER, 8, DONE, TEXT, 0, (uint32_t)-1, 0, NULL, 0, 0},
+        {"one of each table", 0x2D, "year+sum\r", TEXT, TEXT, BUFFER, 8, DONE, TEXT, 0, 739, 0, NULL, 0, 0},
         FAILS("a string", 0x2D, "\"HI\"\r", TEXT, TEXT, BUFFER, 8, 15, 0, "Bad expression"),
         FAILS("nothing", 0x2D, "\r", TEXT, TEXT, BUFFER, 8, 15, 0, "Bad expression"),
         FAILS("over zero", X + 0x2D, "1/0\r", TEXT, TEXT, BUFFER, 8, 16, 0, "Division by zero"),
@@ -282,42 +302,75 @@ static void others(void)
     static const uint32_t swis[] = {0x00, 0x20, 0x22, 0x26, 0x29, 0x2C, 0x2E, 0xCF, 0xE9, X + 0xE9, 0x400D8, 0x10027, 0xFFFFFF};
     for (size_t i = 0; i < sizeof swis / sizeof swis[0]; i++) {
         const struct test list[] = {
-            {"another call", swis[i], "1\r", TEXT, TEXT, BUFFER, 64, {NOT_MINE, 0, 0, {0, ""}}, 0, 0, 0, 0, NULL, 0, 0},
+            {"another call", swis[i], "1\r", TEXT, TEXT, BUFFER, 64, ENDED(NOT_MINE), 0, 0, 0, 0, NULL, 0, 0},
         };
         RUN(list);
     }
 }
 
-/* What the host lends decides too: the table, the allowance, the place for errors. */
+/* What the host lends decides too: the allowance, the place for errors. */
 static void hosts(void)
 {
     static const struct test spent[] = {
         FAILS("three look-ups of two", 0x27, "<head><sum>\r", TEXT, TEXT, BUFFER, 64, 12, 0, "Allowance spent"),
         FAILS("three look-ups of two", X + 0x2D, "sum+sum+sum\r", TEXT, TEXT, BUFFER, 64, 12, 0, "Allowance spent"),
+        {"two, both in the house", 0x27, "<year><year>\r", TEXT, TEXT, BUFFER, 64, DONE, TEXT + 13, BUFFER, 8, 0, "19891989\r",
+         BUFFER, 9},
     };
-    static const struct test bad[] = {
-        FAILS("a bad table", 0x27, "a\r", TEXT, TEXT, BUFFER, 64, 13, 0, "Bad table"),
-        FAILS("a bad table", X + 0x2D, "1\r", TEXT, TEXT, BUFFER, 64, 13, 0, "Bad table"),
-    };
-    static const struct test empty = {"no table", 0x27, "<65>\r", TEXT, TEXT, BUFFER, 64, DONE, TEXT + 5, BUFFER, 1, 0, "A\r",
-                                      BUFFER, 2};
     static const struct test no_block[] = {
-        {"no place for errors", 0x28, NULL, 0, 96, BUFFER, 64, {NO_BLOCK, 0, 0, {0, ""}}, 0, 0, 0, 0, NULL, 0, 0},
-        {"no place for errors", X + 0x28, NULL, 0, 96, BUFFER, 0, {NO_BLOCK, 0, 0, {0, ""}}, 0, 0, 0, 0, NULL, 0, 0},
+        {"no place for errors", 0x28, NULL, 0, 96, BUFFER, 64, ENDED(NO_BLOCK), 0, 0, 0, 0, NULL, 0, 0},
+        {"no place for errors", X + 0x28, NULL, 0, 96, BUFFER, 0, ENDED(NO_BLOCK), 0, 0, 0, 0, NULL, 0, 0},
     };
     static const struct test at_the_end = FAILS("errors at memory's end", 0x28, NULL, 0, 96, BUFFER, 0, 1, 3, "Buffer overflow");
     struct machine machine = usual;
     machine.allowance = 2;
-    run(&machine, spent, 2);
-    machine.table_length--;
-    run(&machine, bad, 2);
-    machine.table = NULL;
-    machine.table_length = 0;
-    run(&machine, &empty, 1);
+    run(&machine, spent, 3);
     machine.error_at = (uint32_t)SIZE - ERROR_ROOM + 1;
     run(&machine, no_block, 2);
     machine.error_at = (uint32_t)SIZE - ERROR_ROOM;
     run(&machine, &at_the_end, 1);
+}
+
+/* Without variables of the machine's own nothing hides those of the house; without either there is no name. */
+static void house_alone(void)
+{
+    static const struct test shown[] = {
+        {"the house alone", 0x27, "<head><sum>\r", TEXT, TEXT, BUFFER, 64, DONE, TEXT + 12, BUFFER, 6, 0, "?!none\r", BUFFER, 7},
+        FAILS("the house alone", X + 0x2D, "year+sum\r", TEXT, TEXT, BUFFER, 64, 17, 0, "Not an integer variable"),
+    };
+    static const struct test none[] = {
+        {"no table", 0x27, "<65>\r", TEXT, TEXT, BUFFER, 64, DONE, TEXT + 5, BUFFER, 1, 0, "A\r", BUFFER, 2},
+        FAILS("no table", 0x2D, "year\r", TEXT, TEXT, BUFFER, 64, 10, 0, "System variable not found"),
+    };
+    struct machine machine = usual;
+    machine.tables.farm = NULL;
+    machine.tables.farm_length = 0;
+    run(&machine, shown, 2);
+    machine.tables.house = NULL;
+    machine.tables.house_length = 0;
+    run(&machine, none, 2);
+}
+
+/* Both tables are judged, though nothing is named: their lengths first, then their records, and of each the farm's first. */
+static void bad_tables(void)
+{
+    static const struct { struct nos_tables tables; struct test test; } list[] = {
+        {{farm, sizeof farm - 1, house, sizeof house}, BAD("a bad farm", 0x27, "a\r", 13, NOS_IN_THE_FARM, "Bad table")},
+        {{farm, sizeof farm - 1, house, sizeof house}, BAD("a bad farm", X + 0x2D, "1\r", 13, NOS_IN_THE_FARM, "Bad table")},
+        {{farm, sizeof farm, house, sizeof house - 1}, BAD("a bad house", 0x27, "a\r", 13, NOS_IN_THE_HOUSE, "Bad table")},
+        {{farm, sizeof farm, house, sizeof house - 1}, BAD("a bad house", X + 0x2D, "1\r", 13, NOS_IN_THE_HOUSE, "Bad table")},
+        {{farm, sizeof farm - 1, house, sizeof house - 1}, BAD("both bad", 0x27, "a\r", 13, NOS_IN_THE_FARM, "Bad table")},
+        {{farm, sizeof farm - 1, house, sizeof house - 1}, BAD("both bad", X + 0x2D, "1\r", 13, NOS_IN_THE_FARM, "Bad table")},
+        {{farm, sizeof farm - 1, too_long, sizeof too_long}, BAD("a house too long", 0x27, "a\r", 18, NOS_IN_THE_HOUSE, LONG)},
+        {{farm, sizeof farm - 1, too_long, sizeof too_long}, BAD("a house too long", X + 0x2D, "1\r", 18, NOS_IN_THE_HOUSE, LONG)},
+        {{too_long, sizeof too_long, too_long, sizeof too_long}, BAD("both too long", 0x27, "a\r", 18, NOS_IN_THE_FARM, LONG)},
+        {{too_long, sizeof too_long, too_long, sizeof too_long}, BAD("both too long", X + 0x2D, "1\r", 18, NOS_IN_THE_FARM, LONG)},
+    };
+    for (size_t i = 0; i < sizeof list / sizeof list[0]; i++) {
+        struct machine machine = usual;
+        machine.tables = list[i].tables;
+        run(&machine, &list[i].test, 1);
+    }
 }
 
 /* Strings of the longest length that is read, and one byte more: spaces, `last` as the last byte, and a return behind it. */
@@ -367,6 +420,8 @@ int main(void)
     conversions();
     others();
     hosts();
+    house_alone();
+    bad_tables();
     long_strings();
     printf("%zu calls, nothing is off\n", tests);
     return 0;

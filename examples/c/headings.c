@@ -1,4 +1,4 @@
-/* The clerk's headings: variables in a table, texts that name them, and sums over them. */
+/* The clerk's headings: variables in the farm's table and the house's, texts that name them, and sums over them. */
 #include <inttypes.h>
 #include <stdio.h>
 #include <string.h>
@@ -8,19 +8,34 @@
 /* MOST is the most that any translation needs: 1,024 names of one letter and three bytes of text, each giving 255 bytes. */
 enum { SLIP = 64, MOST = NOS_LONGEST + 1024 * 252 };
 
-static const struct { uint8_t kind; const char *name, *value; size_t length, place; } variables[] = {
+struct variable {
+    uint8_t kind;
+    const char *name, *value;
+    size_t length, place;
+};
+
+/* Farm$Name and Balance stand in both tables, and a macro of each has names of the other. */
+static const struct variable of_the_farm[] = {
     {NOS_STRING, "Farm$Name", "Lower Ash", 9, 0},
     {NOS_INTEGER, "Balance", "\x1E\xFB\xFF\xFF", 4, 23}, /* -1250 */
-    {NOS_MACRO, "Heading", "<farm$name>: <balance>", 22, 39},
-    {NOS_MACRO, "Owner", "of <Nobody>", 11, 73},
-    {NOS_MACRO, "Again", "<again>", 7, 94},
+    {NOS_MACRO, "Page", "<heading> <unit>", 16, 39},
+    {NOS_MACRO, "Again", "<again>", 7, 64},
 };
-enum { VARIABLES = sizeof variables / sizeof variables[0] };
+static const struct variable of_the_house[] = {
+    {NOS_STRING, "Farm$Name", "Unnamed", 7, 0},
+    {NOS_MACRO, "Heading", "<farm$name>: <balance>", 22, 21},
+    {NOS_STRING, "Balance", "none", 4, 55},
+    {NOS_MACRO, "Owner", "of <Nobody>", 11, 71},
+    {NOS_STRING, "Unit", "kg", 2, 92},
+    {NOS_INTEGER, "Year", "\xC5\x07\x00\x00", 4, 103}, /* 1989 */
+    {NOS_STRING, "Remark", "", 0, 116},
+};
+enum { FARM = sizeof of_the_farm / sizeof of_the_farm[0], HOUSE = sizeof of_the_house / sizeof of_the_house[0] };
 
 static const char *const kinds[] = {"a string", "an integer", "a macro"};
 
-static uint8_t table[128];
-static size_t table_length;
+static uint8_t farm[128], house[128];
+static struct nos_tables tables = {farm, 0, house, 0};
 static uint8_t slip[2 * MARGIN + SLIP];
 static uint8_t longest[NOS_LONGEST + 1];
 
@@ -43,7 +58,13 @@ static size_t put_record(uint8_t *at, uint8_t kind, const char *name, const void
     return sizeof head + name_length + length;
 }
 
-static struct nos_checked check_table(size_t length)
+/* What a place is counted in, in words; the text goes without. */
+static const char *in_words(uint32_t counted)
+{
+    return counted == NOS_IN_THE_FARM ? " in the farm's table" : counted == NOS_IN_THE_HOUSE ? " in the house table" : "";
+}
+
+static struct nos_checked check_table(const uint8_t *table, size_t length)
 {
     struct nos_checked answer = nos_check_table(table, length);
     check(answer.place <= length, "the place is in the table");
@@ -54,97 +75,150 @@ static struct nos_checked check_table(size_t length)
 
 static void expect_bad(size_t length, size_t place, const char *how)
 {
-    struct nos_checked answer = check_table(length);
+    struct nos_checked answer = check_table(farm, length);
     check(answer.number == NOS_BAD_TABLE && answer.place == place, how);
     printf("%s: refused %" PRIu32 " at %zu, %s\n", how, answer.number, answer.place, nos_words(answer.number));
 }
 
-static void build_the_table(void)
+/* Builds a table of variables; its length. */
+static size_t build(uint8_t *table, const struct variable *variables, size_t count, const char *whose)
 {
-    for (size_t i = 0; i < VARIABLES; i++) {
-        check(table_length == variables[i].place, variables[i].name);
-        table_length += put_record(table + table_length, variables[i].kind, variables[i].name, variables[i].value,
-                                   variables[i].length);
+    size_t length = 0;
+    for (size_t i = 0; i < count; i++) {
+        check(length == variables[i].place, variables[i].name);
+        length += put_record(table + length, variables[i].kind, variables[i].name, variables[i].value, variables[i].length);
     }
-    struct nos_checked answer = check_table(table_length);
-    check(answer.number == NOS_ACCEPTED && answer.records == VARIABLES, "the table is good");
-    printf("a table of %zu bytes: good, %" PRIu32 " records\n", table_length, answer.records);
+    struct nos_checked answer = check_table(table, length);
+    check(answer.number == NOS_ACCEPTED && answer.records == count, "the table is good");
+    printf("%s, %zu bytes: good, %" PRIu32 " records\n", whose, length, answer.records);
+    return length;
+}
+
+static void build_the_tables(void)
+{
+    tables.farm_length = build(farm, of_the_farm, FARM, "the farm's table");
+    tables.house_length = build(house, of_the_house, HOUSE, "the house table");
     struct nos_checked empty = nos_check_table(NULL, 0);
     check(empty.number == NOS_ACCEPTED && empty.records == 0, "NULL with length 0 is a good table");
     printf("no table: good, %" PRIu32 " records\n", empty.records);
 }
 
-/* One byte damaged, and put right again. The place is that of the record, not of the byte. */
+/* One byte of the farm's table damaged, and put right again. The place is that of the record, not of the byte. */
 static void damage_the_table(void)
 {
     static const struct { size_t at; uint8_t byte; size_t place; } damages[] = {
-        {0, 85, 0}, {24, 83, 23}, {27, 5, 23}, {41, 3, 39}, {76, 0, 73}, {99, '<', 94},
+        {0, 85, 0}, {24, 83, 23}, {27, 5, 23}, {41, 3, 39}, {42, 0, 39}, {69, '<', 64},
     };
     for (size_t i = 0; i < sizeof damages / sizeof damages[0]; i++) {
-        uint8_t was = table[damages[i].at];
+        uint8_t was = farm[damages[i].at];
         char how[32];
-        table[damages[i].at] = damages[i].byte;
+        farm[damages[i].at] = damages[i].byte;
         snprintf(how, sizeof how, "%d for %d at %zu", damages[i].byte, was, damages[i].at);
-        expect_bad(table_length, damages[i].place, how);
-        table[damages[i].at] = was;
+        expect_bad(tables.farm_length, damages[i].place, how);
+        farm[damages[i].at] = was;
     }
-    expect_bad(table_length - 1, 94, "the last byte cut off");
-    size_t more = put_record(table + table_length, NOS_MACRO, "FARM$NAME", "", 0);
-    expect_bad(table_length + more, table_length, "FARM$NAME added");
-    check(check_table(table_length).number == NOS_ACCEPTED, "the table is good again");
+    expect_bad(tables.farm_length - 1, 64, "the last byte cut off");
+    size_t more = put_record(farm + tables.farm_length, NOS_MACRO, "FARM$NAME", "", 0);
+    expect_bad(tables.farm_length + more, tables.farm_length, "FARM$NAME added");
+    check(check_table(farm, tables.farm_length).number == NOS_ACCEPTED, "the table is good again");
 }
 
-/* Finds a variable: its record's place, its kind, and its value in the table. */
-static void find(const char *name, size_t which)
+/* Finds a variable: the table that holds it, its record's place, its kind, and its value, which lies in that table. */
+static void find(const char *name, struct nos_tables in, uint32_t counted, const struct variable *variable)
 {
-    struct nos_variable found = nos_look_up(bytes_of(name), strlen(name), table, table_length);
-    check(found.number == NOS_ACCEPTED && found.counted == NOS_IN_THE_TABLE, name);
-    check(found.place == variables[which].place && found.kind == variables[which].kind, name);
-    check(found.start == found.place + 5 + strlen(name) && found.length == variables[which].length, name);
-    check(memcmp(table + found.start, variables[which].value, found.length) == 0, name);
-    printf("%s: %s at %zu, ", name, kinds[found.kind], found.place);
-    print_bytes(table + found.start, found.length);
-    putchar('\n');
+    struct nos_variable found = nos_look_up(bytes_of(name), strlen(name), NOS_TABLES(in));
+    check(found.number == NOS_ACCEPTED && found.counted == counted, name);
+    check(found.place == variable->place && found.kind == variable->kind, name);
+    check(found.start == found.place + 5 + strlen(name) && found.length == variable->length, name);
+    const uint8_t *value = (found.counted == NOS_IN_THE_FARM ? in.farm : in.house) + found.start;
+    check(memcmp(value, variable->value, found.length) == 0, name);
+    printf("%s: %s at %zu%s, ", name, kinds[found.kind], found.place, in_words(found.counted));
+    print_bytes(value, found.length);
+    puts(found.length == 0 ? "nothing" : "");
+}
+
+static struct nos_tables the_house_alone(void)
+{
+    struct nos_tables alone = {NULL, 0, tables.house, tables.house_length};
+    return alone;
+}
+
+/* The farm's record, whatever its kind, hides the house's with an equal name. An empty value is found like any other. */
+static void look_up(void)
+{
+    find("Farm$Name", tables, NOS_IN_THE_FARM, &of_the_farm[0]);
+    find("FARM$NAME", tables, NOS_IN_THE_FARM, &of_the_farm[0]);
+    find("bALANCE", tables, NOS_IN_THE_FARM, &of_the_farm[1]);
+    find("heading", tables, NOS_IN_THE_HOUSE, &of_the_house[1]);
+    find("Remark", tables, NOS_IN_THE_HOUSE, &of_the_house[6]);
+    puts("without the farm's table:");
+    find("Farm$Name", the_house_alone(), NOS_IN_THE_HOUSE, &of_the_house[0]);
+    find("bALANCE", the_house_alone(), NOS_IN_THE_HOUSE, &of_the_house[2]);
 }
 
 /* Looks a name up that is not found. */
-static struct nos_variable expect_not_found(const char *name, const uint8_t *in, size_t length, uint32_t number, size_t place)
+static void expect_not_found(const char *name, struct nos_tables in, const char *how, uint32_t number, uint32_t counted,
+                             size_t place)
 {
-    struct nos_variable answer = nos_look_up(bytes_of(name), name == NULL ? 0 : strlen(name), in, length);
-    check(answer.number == number && answer.place == place, "it is not found");
-    check(answer.counted == (number == NOS_UNKNOWN_NAME ? NOS_IN_THE_TEXT : NOS_IN_THE_TABLE), "a bad table's place is there");
+    struct nos_variable answer = nos_look_up(bytes_of(name), name == NULL ? 0 : strlen(name), NOS_TABLES(in));
+    check(answer.number == number && answer.counted == counted && answer.place == place, how);
     check(answer.kind == 0 && answer.start == 0 && answer.length == 0, "a refusal has no value");
-    return answer;
+    printf("%s%s: refused %" PRIu32 " at %zu%s, %s\n", name == NULL ? "no name" : name, how, answer.number, answer.place,
+           in_words(answer.counted), nos_words(answer.number));
 }
 
-static void look_up(void)
+/* Both tables are judged first, though the farm's has the name: their lengths, then their records, and of each the farm's first. */
+static void look_up_in_vain(void)
 {
-    find("Farm$Name", 0);
-    find("FARM$NAME", 0);
-    find("bALANCE", 1);
-    find("heading", 2);
-    struct nos_variable unknown = expect_not_found("Nobody", table, table_length, NOS_UNKNOWN_NAME, 0);
-    expect_not_found(NULL, table, table_length, NOS_UNKNOWN_NAME, 0);
-    expect_not_found(NULL, NULL, 0, NOS_UNKNOWN_NAME, 0);
-    printf("Nobody: refused %" PRIu32 ", %s\n", unknown.number, nos_words(unknown.number));
-    expect_not_found("Balance", longest, sizeof longest, NOS_OVER_LENGTH, 0);
-    table[40] = 0;
-    struct nos_variable bad = expect_not_found("Balance", table, table_length, NOS_BAD_TABLE, 39);
-    table[40] = 82;
-    printf("Balance, a later record being bad: refused %" PRIu32 " at %zu, %s\n", bad.number, bad.place, nos_words(bad.number));
+    static const struct nos_tables nothing = {NULL, 0, NULL, 0};
+    struct nos_tables long_farm = tables, long_house = tables;
+    long_farm.farm = long_house.house = longest;
+    long_farm.farm_length = long_house.house_length = sizeof longest;
+    expect_not_found("Nobody", tables, "", NOS_UNKNOWN_NAME, NOS_IN_THE_TEXT, 0);
+    expect_not_found(NULL, tables, "", NOS_UNKNOWN_NAME, NOS_IN_THE_TEXT, 0);
+    expect_not_found(NULL, nothing, ", no tables", NOS_UNKNOWN_NAME, NOS_IN_THE_TEXT, 0);
+    expect_not_found("Certified$Fields$Diary$Entry$0001", tables, "", NOS_UNKNOWN_NAME, NOS_IN_THE_TEXT, 0);
+    struct nos_variable long_name = nos_look_up(longest, sizeof longest, NOS_TABLES(tables));
+    check(long_name.number == NOS_UNKNOWN_NAME && long_name.place == 0, "a name of any length is no text");
+    house[72] = 0;
+    expect_not_found("Balance", tables, ", the house table being bad", NOS_BAD_TABLE, NOS_IN_THE_HOUSE, 71);
+    expect_not_found("Balance", long_farm, ", the farm's table too long besides", NOS_OVER_LENGTH, NOS_IN_THE_FARM, 0);
+    farm[40] = 0;
+    expect_not_found("Balance", tables, ", both being bad", NOS_BAD_TABLE, NOS_IN_THE_FARM, 39);
+    house[72] = 82;
+    expect_not_found("Balance", tables, ", the farm's table being bad", NOS_BAD_TABLE, NOS_IN_THE_FARM, 39);
+    expect_not_found("Balance", long_house, ", the house table too long besides", NOS_OVER_LENGTH, NOS_IN_THE_HOUSE, 0);
+    farm[40] = 82;
+}
+
+/* Two full tables with the same names are good: the limit of 256 records holds for each. One more makes its own table bad. */
+static void full_tables(void)
+{
+    enum { RECORD = 9, FULL = 256 * RECORD };
+    static uint8_t full[FULL + RECORD];
+    static const struct nos_tables both = {full, FULL, full, FULL}, more = {full, FULL, full, FULL + RECORD};
+    static const struct variable last = {NOS_STRING, "n255", "", 0, FULL - RECORD};
+    for (size_t i = 0; i <= 256; i++) {
+        char name[24];
+        snprintf(name, sizeof name, "n%03zu", i);
+        put_record(full + i * RECORD, NOS_STRING, name, "", 0);
+    }
+    puts("256 records in each table:");
+    find("n255", both, NOS_IN_THE_FARM, &last);
+    expect_not_found("n256", both, "", NOS_UNKNOWN_NAME, NOS_IN_THE_TEXT, 0);
+    expect_not_found("n255", more, ", one record more in the house", NOS_BAD_TABLE, NOS_IN_THE_HOUSE, FULL);
 }
 
 struct asked {
     const uint8_t *text;
     size_t length;
-    const uint8_t *table;
-    size_t table_length;
+    struct nos_tables tables;
     uint32_t flags, allowance;
 };
 
-static struct asked of_the_table(const char *text, uint32_t flags, uint32_t allowance)
+static struct asked ask_of(struct nos_tables in, const char *text, uint32_t flags, uint32_t allowance)
 {
-    struct asked a = {bytes_of(text), strlen(text), table, table_length, flags, allowance};
+    struct asked a = {bytes_of(text), strlen(text), in, flags, allowance};
     return a;
 }
 
@@ -153,7 +227,7 @@ static struct asked of_the_table(const char *text, uint32_t flags, uint32_t allo
 static struct nos_answer translate(struct asked a, uint8_t *paper, size_t size, size_t at, size_t room)
 {
     remember(paper, size);
-    struct nos_answer answer = nos_translate(a.text, a.length, a.table, a.table_length, a.flags, a.allowance, paper + at, room);
+    struct nos_answer answer = nos_translate(a.text, a.length, NOS_TABLES(a.tables), a.flags, a.allowance, paper + at, room);
     uint32_t number = answer.number;
     size_t need = answer.need, written = number == NOS_ACCEPTED ? need : 0;
     check(written <= room && answer.free == room - written, "no more is written than was lent, and the rest is free");
@@ -161,7 +235,7 @@ static struct nos_answer translate(struct asked a, uint8_t *paper, size_t size, 
     if (answer.counted == NOS_IN_THE_TEXT)
         check(answer.place <= a.length && number != NOS_BAD_TABLE, "the place is in the text");
     else
-        check(number == NOS_BAD_TABLE || number == NOS_OVER_LENGTH, "only 13 and 18 have places in the table");
+        check(number == NOS_BAD_TABLE || number == NOS_OVER_LENGTH, "only 13 and 18 have places in a table");
     check_the_rest(paper, size, at, written);
     return answer;
 }
@@ -196,6 +270,8 @@ static void translations(void)
         {"<Farm$Name>", "", 0, 1, "Lower Ash", 9, 11},
         {"  <FARM$NAME> <balance> ", "", 0, 2, "Lower Ash -1250 ", 16, 24},
         {"<heading>", "", 0, 3, "Lower Ash: -1250", 16, 9},
+        {"<PAGE>", "", 0, 5, "Lower Ash: -1250 kg", 19, 6},
+        {"<Year><remark>", "", 0, 2, "1989", 4, 14},
         {"<&41><321><2_1000001>", "", 0, 0, "AAA", 3, 21},
         {"|Jrow|?|!|@|!a||", "", 0, 0, "\nrow\x7F\x80\xE1|", 8, 16},
         {"\"\"\"Ash\"\"\"  ", "", 0, 0, "\"Ash\"", 5, 11},
@@ -208,23 +284,24 @@ static void translations(void)
         {"|<65> a", " (all other bits)", 0x1FFFFFFF, 0, "<65> a", 6, 7},
     };
     for (size_t i = 0; i < sizeof lines / sizeof lines[0]; i++)
-        ask_twice(of_the_table(lines[i].text, lines[i].flags, lines[i].allowance), lines[i].how, lines[i].given, lines[i].length,
+        ask_twice(ask_of(tables, lines[i].text, lines[i].flags, lines[i].allowance), lines[i].how, lines[i].given, lines[i].length,
                   lines[i].end);
+    ask_twice(ask_of(the_house_alone(), "<heading>", 0, 3), " (the house alone)", "Unnamed: none", 13, 9);
 }
 
 /* NULL pointers that no one follows. */
 static void of_nothing(void)
 {
-    struct nos_answer nothing = nos_translate(NULL, 0, NULL, 0, 0, 0, NULL, 0);
+    struct nos_answer nothing = nos_translate(NULL, 0, NULL, 0, NULL, 0, 0, 0, NULL, 0);
     check(nothing.number == NOS_ACCEPTED && nothing.counted == NOS_IN_THE_TEXT, "no text is accepted");
     check(nothing.place == 0 && nothing.need == 0 && nothing.free == 0, "with the need 0 and the end 0");
-    printf("no text, no table, no buffer: accepted, need %zu\n", nothing.need);
-    struct nos_answer refused = nos_translate(bytes_of("<Heading>"), 9, table, table_length, 0, 3, NULL, 0);
+    printf("no text, no tables, no buffer: accepted, need %zu\n", nothing.need);
+    struct nos_answer refused = nos_translate(bytes_of("<Heading>"), 9, NOS_TABLES(tables), 0, 3, NULL, 0);
     check(refused.number == NOS_NO_ROOM && refused.need == 16, "no buffer is refused, with the need");
     printf("<Heading>, no buffer: refused %" PRIu32 ", %s, need %zu\n", refused.number, nos_words(refused.number), refused.need);
-    struct nos_answer unknown = nos_translate(bytes_of("<Heading>"), 9, NULL, 0, 0, 3, NULL, 0);
+    struct nos_answer unknown = nos_translate(bytes_of("<Heading>"), 9, NULL, 0, NULL, 0, 0, 3, NULL, 0);
     check(unknown.number == NOS_UNKNOWN_NAME && unknown.need == 0, "in no table every name is unknown");
-    printf("<Heading>, no table: refused %" PRIu32 " at %zu, %s\n", unknown.number, unknown.place, nos_words(unknown.number));
+    printf("<Heading>, no tables: refused %" PRIu32 " at %zu, %s\n", unknown.number, unknown.place, nos_words(unknown.number));
 }
 
 /* Refused at every room alike: the room is looked at last. */
@@ -234,7 +311,7 @@ static void expect_refused(struct asked a, const char *what, uint32_t number, ui
     check(answer.number == number && answer.counted == counted && answer.place == place, what);
     check(alike(on_a_clean_slip(a, 0), answer), "with room 0 it is the same refusal");
     printf("%s: refused %" PRIu32 " at %zu%s, %s, no byte changed\n", what, answer.number, answer.place,
-           answer.counted == NOS_IN_THE_TABLE ? " in the table" : "", nos_words(answer.number));
+           in_words(answer.counted), nos_words(answer.number));
 }
 
 static void refusals(void)
@@ -250,6 +327,7 @@ static void refusals(void)
         {"96 <Balance>", 0, NOS_ALLOWANCE_SPENT, 3},
         {"96 <Nobody>", 0, NOS_UNKNOWN_NAME, 3},
         {"=<Heading>", 2, NOS_ALLOWANCE_SPENT, 1},
+        {"=<Page>", 4, NOS_ALLOWANCE_SPENT, 1},
         {"a||b|1", 9, NOS_BAD_CODE, 4},
         {"a|!|!b", 9, NOS_BAD_CODE, 1},
         {" \"Ash", 9, NOS_BAD_STRING, 1},
@@ -258,15 +336,26 @@ static void refusals(void)
     for (size_t i = 0; i < sizeof lines / sizeof lines[0]; i++) {
         char what[48];
         snprintf(what, sizeof what, "%s (allowance %" PRIu32 ")", lines[i].text, lines[i].allowance);
-        expect_refused(of_the_table(lines[i].text, 0, lines[i].allowance), what, lines[i].number, NOS_IN_THE_TEXT, lines[i].place);
+        expect_refused(ask_of(tables, lines[i].text, 0, lines[i].allowance), what, lines[i].number, NOS_IN_THE_TEXT,
+                       lines[i].place);
     }
-    table[24] = 83;
-    expect_refused(of_the_table("<", 0, 0), "< over a damaged table", NOS_BAD_TABLE, NOS_IN_THE_TABLE, 23);
-    struct asked long_text = {longest, sizeof longest, table, table_length, 0, 0};
-    expect_refused(long_text, "65536 bytes of text over it", NOS_OVER_LENGTH, NOS_IN_THE_TEXT, 0);
-    table[24] = 82;
-    struct asked long_table = {bytes_of("<"), 1, longest, sizeof longest, 0, 0};
-    expect_refused(long_table, "< over 65536 bytes of table", NOS_OVER_LENGTH, NOS_IN_THE_TABLE, 0);
+}
+
+/* Refusals of what is lent, before the text's own: 18 of the text, the farm's table, the house's; then 13 of the two. */
+static void bad_tables(void)
+{
+    struct nos_tables long_house = tables, both_long = {longest, sizeof longest, longest, sizeof longest};
+    long_house.house = longest;
+    long_house.house_length = sizeof longest;
+    house[22] = 83;
+    expect_refused(ask_of(tables, "<", 0, 0), "< over a damaged house", NOS_BAD_TABLE, NOS_IN_THE_HOUSE, 21);
+    farm[24] = 83;
+    expect_refused(ask_of(tables, "<", 0, 0), "< over a damaged farm besides", NOS_BAD_TABLE, NOS_IN_THE_FARM, 23);
+    expect_refused(ask_of(long_house, "<", 0, 0), "< over it and 65536 bytes of house", NOS_OVER_LENGTH, NOS_IN_THE_HOUSE, 0);
+    farm[24] = house[22] = 82;
+    expect_refused(ask_of(both_long, "<", 0, 0), "< over 65536 bytes of each", NOS_OVER_LENGTH, NOS_IN_THE_FARM, 0);
+    struct asked long_text = {longest, sizeof longest, both_long, 0, 0};
+    expect_refused(long_text, "65536 bytes of text over them", NOS_OVER_LENGTH, NOS_IN_THE_TEXT, 0);
 }
 
 /* The longest text with all look-ups that there are, each giving the longest value. */
@@ -277,7 +366,7 @@ static void the_largest(void)
     put_record(wide, NOS_STRING, "a", value, sizeof value);
     memset(longest, 'x', sizeof longest);
     for (size_t i = 0; i < 1024; i++) memcpy(longest + 3 * i, "<a>", 3);
-    struct asked a = {longest, NOS_LONGEST, wide, sizeof wide, 0, NOS_NO_LIMIT};
+    struct asked a = {longest, NOS_LONGEST, {NULL, 0, wide, sizeof wide}, 0, NOS_NO_LIMIT};
     fill(diary, sizeof diary);
     struct nos_answer refused = translate(a, diary, sizeof diary, MARGIN, MOST - 1);
     check(refused.number == NOS_NO_ROOM && refused.need == MOST, "one byte too few is refused, with the need");
@@ -293,9 +382,9 @@ static void the_largest(void)
 /* Works a sum out, and checks what holds of every call. */
 static struct nos_value evaluate(const uint8_t *text, size_t length, uint32_t allowance)
 {
-    struct nos_value answer = nos_evaluate(text, length, table, table_length, allowance);
+    struct nos_value answer = nos_evaluate(text, length, NOS_TABLES(tables), allowance);
     check(answer.number == NOS_ACCEPTED || answer.value == 0, "a refused sum has no value");
-    check(answer.counted == NOS_IN_THE_TEXT && answer.place <= length, "over a good table the place is in the text");
+    check(answer.counted == NOS_IN_THE_TEXT && answer.place <= length, "over good tables the place is in the text");
     return answer;
 }
 
@@ -303,6 +392,7 @@ static void sums(void)
 {
     static const struct { const char *text; uint32_t allowance, number; int32_t value; size_t place; } lines[] = {
         {"balance + 1250", 1, NOS_ACCEPTED, 0, 14},
+        {"Year + Balance", 2, NOS_ACCEPTED, 739, 14},
         {" (12 + 3) * -96 ", 0, NOS_ACCEPTED, -1440, 16},
         {"2147483647+1", 0, NOS_ACCEPTED, INT32_MIN, 12},
         {"-7 MOD 2", 0, NOS_ACCEPTED, -1, 8},
@@ -341,34 +431,58 @@ static void expect(struct nos_value answer, uint32_t number, uint32_t counted, s
 /* Sums of nothing, over nothing, and over what is too much. */
 static void other_sums(void)
 {
-    struct nos_value nothing = nos_evaluate(NULL, 0, NULL, 0, 0);
+    struct nos_value nothing = nos_evaluate(NULL, 0, NULL, 0, NULL, 0, 0);
     expect(nothing, NOS_BAD_EXPRESSION, NOS_IN_THE_TEXT, 0, 0, "no text is refused at 0, with no value");
     printf("no sum: refused %" PRIu32 " at %zu, %s\n", nothing.number, nothing.place, nos_words(nothing.number));
-    struct nos_value unknown = nos_evaluate(bytes_of("Balance"), 7, NULL, 0, 9);
+    struct nos_value unknown = nos_evaluate(bytes_of("Balance"), 7, NULL, 0, NULL, 0, 9);
     expect(unknown, NOS_UNKNOWN_NAME, NOS_IN_THE_TEXT, 0, 0, "in no table every name is unknown");
-    printf("Balance, no table: refused %" PRIu32 " at %zu, %s\n", unknown.number, unknown.place, nos_words(unknown.number));
+    printf("Balance, no tables: refused %" PRIu32 " at %zu, %s\n", unknown.number, unknown.place, nos_words(unknown.number));
+    struct nos_tables alone = the_house_alone();
+    struct nos_value text = nos_evaluate(bytes_of("Balance"), 7, NOS_TABLES(alone), 9);
+    expect(text, NOS_NOT_AN_INTEGER, NOS_IN_THE_TEXT, 0, 0, "the house has a string of that name");
+    printf("Balance, the house alone: refused %" PRIu32 " at %zu, %s\n", text.number, text.place, nos_words(text.number));
     memset(longest, ' ', sizeof longest);
     longest[NOS_LONGEST - 1] = '7';
     struct nos_value most = evaluate(longest, NOS_LONGEST, 0), more = evaluate(longest, sizeof longest, 0);
     expect(most, NOS_ACCEPTED, NOS_IN_THE_TEXT, NOS_LONGEST, 7, "65535 bytes are read");
     expect(more, NOS_OVER_LENGTH, NOS_IN_THE_TEXT, 0, 0, "65536 bytes are not");
     printf("65534 spaces and 7: %" PRId32 "; the same and a space: refused %" PRIu32 "\n", most.value, more.number);
-    table[24] = 83;
-    struct nos_value bad = nos_evaluate(bytes_of("1/0"), 3, table, table_length, 0);
-    table[24] = 82;
-    expect(bad, NOS_BAD_TABLE, NOS_IN_THE_TABLE, 23, 0, "a damaged table comes before the sum's own faults");
-    printf("1/0 over a damaged table: refused %" PRIu32 " at %zu in the table, %s\n", bad.number, bad.place, nos_words(bad.number));
+}
+
+static void refuse_sum(struct nos_tables in, const char *how, uint32_t number, uint32_t counted, size_t place)
+{
+    struct nos_value answer = nos_evaluate(bytes_of("1/0"), 3, NOS_TABLES(in), 0);
+    expect(answer, number, counted, place, 0, "what is lent comes before the sum's own faults");
+    printf("1/0 over %s: refused %" PRIu32 " at %zu%s, %s\n", how, answer.number, answer.place, in_words(answer.counted),
+           nos_words(answer.number));
+}
+
+static void sums_over_bad_tables(void)
+{
+    struct nos_tables long_house = tables;
+    long_house.house = longest;
+    long_house.house_length = sizeof longest;
+    house[22] = 83;
+    refuse_sum(tables, "a damaged house", NOS_BAD_TABLE, NOS_IN_THE_HOUSE, 21);
+    farm[24] = 83;
+    refuse_sum(tables, "a damaged farm besides", NOS_BAD_TABLE, NOS_IN_THE_FARM, 23);
+    refuse_sum(long_house, "it and 65536 bytes of house", NOS_OVER_LENGTH, NOS_IN_THE_HOUSE, 0);
+    farm[24] = house[22] = 82;
 }
 
 void headings(void)
 {
-    build_the_table();
+    build_the_tables();
     damage_the_table();
     look_up();
+    look_up_in_vain();
+    full_tables();
     translations();
     of_nothing();
     refusals();
+    bad_tables();
     the_largest();
     sums();
     other_sums();
+    sums_over_bad_tables();
 }

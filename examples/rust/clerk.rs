@@ -4,20 +4,31 @@
 mod nosgoludd;
 
 use nosgoludd::{
-    check_table, convert, evaluate, look_up, read_unsigned, translate, translate_to_vec, Evaluated, Number, Refusal, Variable,
-    BAR_PLAIN, NO_LIMIT, NO_ROOM, QUOTE_PLAIN, SPACED_UNSIGNED_4, SPACE_ENDS, UNSIGNED_4,
+    check_table, convert, evaluate, look_up, read_unsigned, translate, translate_to_vec, Evaluated, Found, Number, Refusal,
+    Table, Tables, Variable, BAR_PLAIN, NO_LIMIT, NO_ROOM, QUOTE_PLAIN, SPACED_UNSIGNED_4, SPACE_ENDS, UNSIGNED_4,
 };
 
-/// Records one behind the other: V, R, kind, name length, value length, name, value.
-const TABLE: &[u8] = b"VR\x00\x09\x09Farm$NameLower Ash\
-                       VR\x01\x08\x04Quantity\x00\x00\x10\x00\
-                       VR\x02\x07\x1AHeading<Farm$Name>: <Quantity> kg";
+/// Records one behind the other: V, R, kind, name length, value length, name, value. The house has a heading for every farm, and a
+/// name for those that give none.
+const FARM: &[u8] = b"VR\x00\x09\x09Farm$NameLower Ash\
+                      VR\x01\x08\x04Quantity\x00\x00\x10\x00";
+const HOUSE: &[u8] = b"VR\x00\x09\x07Farm$NameUnnamed\
+                       VR\x02\x07\x1EHeading<Farm$Name>: <Quantity> <Unit>\
+                       VR\x00\x04\x02Unitkg\
+                       VR\x01\x04\x04Year\xC5\x07\x00\x00";
+
+const TABLES: Tables = Tables { farm: FARM, house: HOUSE };
 
 const WHOLE: &[u8] = b"Lower Ash: 1048576 kg";
 
 /// A refusal in the text that is not for lack of room.
 fn refused(number: u32, place: usize) -> Refusal {
-    Refusal { number, place, in_the_table: false, need: 0 }
+    Refusal { number, place, table: None, need: 0 }
+}
+
+/// A refusal of one of the tables.
+fn refused_in(table: Table, number: u32, place: usize) -> Refusal {
+    Refusal { table: Some(table), ..refused(number, place) }
 }
 
 fn shown(bytes: &[u8]) -> String {
@@ -28,43 +39,62 @@ fn shown(bytes: &[u8]) -> String {
 fn ask_twice() -> Result<(), Refusal> {
     let text = b"<Heading>";
     let mut short = *b"................";
-    let refusal = translate(text, TABLE, 0, 8, &mut short).expect_err("16 bytes are too few");
-    assert_eq!(refusal, Refusal { number: NO_ROOM, place: 0, in_the_table: false, need: 21 });
+    let refusal = translate(text, TABLES, 0, 8, &mut short).expect_err("16 bytes are too few");
+    assert_eq!(refusal, Refusal { need: 21, ..refused(NO_ROOM, 0) });
     assert_eq!(&short, b"................", "a refusal changes no byte");
     println!("{} with room for 16: {refusal}", shown(text));
 
     let mut enough = vec![0; refusal.need];
-    let translated = translate(text, TABLE, 0, 8, &mut enough)?;
+    let translated = translate(text, TABLES, 0, 8, &mut enough)?;
     assert_eq!((translated.bytes, translated.end), (WHOLE, 9));
     println!("{} with room for {}: {}", shown(text), refusal.need, shown(translated.bytes));
 
     // the same in one call
-    assert_eq!(translate_to_vec(text, TABLE, 0, 8)?, WHOLE);
-    assert_eq!(translate_to_vec(b"", &[], 0, 0)?, b"");
+    assert_eq!(translate_to_vec(text, TABLES, 0, 8)?, WHOLE);
+    assert_eq!(translate_to_vec(b"", Tables::default(), 0, 0)?, b"");
     Ok(())
 }
 
-/// Refusals that no room helps: the place says where the text is wrong, or the table.
+/// Refusals that no room helps: the place says where the text is wrong.
 fn mistakes() {
     let text = b"96 kg to <Farm$Nmae>";
-    let refusal = translate_to_vec(text, TABLE, 0, 8).expect_err("the name is unknown");
+    let refusal = translate_to_vec(text, TABLES, 0, 8).expect_err("the name is unknown");
     assert_eq!(refusal, refused(10, 9));
     println!("{}: {refusal}", shown(text));
 
-    assert_eq!(translate_to_vec(b"<Heading>", TABLE, 0, 2), Err(refused(12, 0)));
-    let cut = &TABLE[..TABLE.len() - 1];
-    let refusal = translate_to_vec(b"96", cut, 0, 8).expect_err("the last record is cut off");
-    assert_eq!(refusal, Refusal { number: 13, place: 40, in_the_table: true, need: 0 });
-    println!("over a table without its last byte: {refusal}");
+    // the heading and its three names take four look-ups, whichever tables they are in
+    assert_eq!(translate_to_vec(b"<Heading>", TABLES, 0, 3), Err(refused(12, 0)));
+    assert!(translate_to_vec(b"<Heading>", TABLES, 0, 4).is_ok());
+}
+
+/// Refusals of a table, which come before the text's own: the place says where in it, and `table` which one it is.
+fn bad_tables() {
+    let cut_farm = Tables { farm: &FARM[..FARM.len() - 1], ..TABLES };
+    let refusal = translate_to_vec(b"96 <", cut_farm, 0, 8).expect_err("the last record is cut off");
+    assert_eq!(refusal, refused_in(Table::Farm, 13, 23));
+    println!("without the last byte of the farm's table: {refusal}");
+
+    let cut_house = Tables { house: &HOUSE[..HOUSE.len() - 1], ..TABLES };
+    let refusal = translate_to_vec(b"96 <", cut_house, 0, 8).expect_err("the last record is cut off");
+    assert_eq!(refusal, refused_in(Table::House, 13, 74));
+    println!("without the last byte of the house's: {refusal}");
+
+    let both = Tables { house: cut_house.house, ..cut_farm };
+    assert_eq!(look_up(b"Quantity", both), Err(refused_in(Table::Farm, 13, 23)));
+    let long = [0; 65536];
+    assert_eq!(evaluate(b"1/0", Tables { house: &long, ..cut_farm }, 0), Err(refused_in(Table::House, 18, 0)));
+    assert_eq!(evaluate(b"1/0", Tables { farm: &long, house: &long }, 0), Err(refused_in(Table::Farm, 18, 0)));
+    assert_eq!(check_table(cut_house.house), Err(refused(13, 74)));
 }
 
 /// What a flag changes: a text with a space, a bar and a quote.
 fn flags() -> Result<(), Refusal> {
     let text = b"\"a |A\" b";
-    assert_eq!(translate_to_vec(text, &[], 0, 0), Err(refused(8, 7)));
-    assert_eq!(translate_to_vec(text, &[], SPACE_ENDS, 0)?, b"a \x01");
-    assert_eq!(translate_to_vec(text, &[], SPACE_ENDS | BAR_PLAIN, 0)?, b"a |A");
-    assert_eq!(translate_to_vec(text, &[], QUOTE_PLAIN, 0)?, b"\"a \x01\" b");
+    let none = Tables::default();
+    assert_eq!(translate_to_vec(text, none, 0, 0), Err(refused(8, 7)));
+    assert_eq!(translate_to_vec(text, none, SPACE_ENDS, 0)?, b"a \x01");
+    assert_eq!(translate_to_vec(text, none, SPACE_ENDS | BAR_PLAIN, 0)?, b"a |A");
+    assert_eq!(translate_to_vec(text, none, QUOTE_PLAIN, 0)?, b"\"a \x01\" b");
     Ok(())
 }
 
@@ -86,26 +116,34 @@ fn numbers() -> Result<(), Refusal> {
     Ok(())
 }
 
+/// The farm's variables come before the house's.
 fn variables() -> Result<(), Refusal> {
-    assert_eq!(check_table(TABLE)?, 3);
-    assert_eq!(look_up(b"FARM$NAME", TABLE)?, Variable::String(b"Lower Ash"));
-    assert_eq!(look_up(b"quantity", TABLE)?, Variable::Integer(1048576));
-    assert_eq!(look_up(b"Heading", TABLE)?, Variable::Macro(b"<Farm$Name>: <Quantity> kg"));
-    assert_eq!(look_up(b"Nobody", TABLE), Err(refused(10, 0)));
-    let bad = look_up(b"Quantity", &TABLE[1..]).expect_err("the first record is bad");
-    assert_eq!(bad, Refusal { in_the_table: true, ..refused(13, 0) });
+    assert_eq!((check_table(FARM)?, check_table(HOUSE)?), (2, 4));
+    let name = look_up(b"FARM$NAME", TABLES)?;
+    assert_eq!(name, Found { variable: Variable::String(b"Lower Ash"), table: Table::Farm });
+    let alone = Tables { farm: &[], ..TABLES };
+    let name_of_the_house = look_up(b"FARM$NAME", alone)?;
+    assert_eq!(name_of_the_house, Found { variable: Variable::String(b"Unnamed"), table: Table::House });
+    let heading = look_up(b"Heading", TABLES)?;
+    assert_eq!(heading, Found { variable: Variable::Macro(b"<Farm$Name>: <Quantity> <Unit>"), table: Table::House });
+    assert_eq!(look_up(b"quantity", TABLES)?, Found { variable: Variable::Integer(1048576), table: Table::Farm });
+    assert_eq!(look_up(b"Nobody", TABLES), Err(refused(10, 0)));
+    assert_eq!(look_up(&[b'n'; 65536], TABLES), Err(refused(10, 0)), "a name of any length is no text");
+    println!("Farm$Name: in {}; without that: in {}", name.table, name_of_the_house.table);
 
     let sum = b"-(Quantity + 7) MOD 10";
-    let evaluated = evaluate(sum, TABLE, 1)?;
+    let evaluated = evaluate(sum, TABLES, 1)?;
     assert_eq!(evaluated, Evaluated { value: -3, end: 22 });
     println!("{}: {}", shown(sum), evaluated.value);
-    assert_eq!(evaluate(b"96/0", TABLE, 0), Err(refused(16, 2)));
+    assert_eq!(evaluate(b"Quantity - Year", TABLES, 2)?, Evaluated { value: 1046587, end: 15 });
+    assert_eq!(evaluate(b"96/0", TABLES, 0), Err(refused(16, 2)));
     Ok(())
 }
 
 fn main() -> Result<(), Refusal> {
     ask_twice()?;
     mistakes();
+    bad_tables();
     flags()?;
     numbers()?;
     variables()?;

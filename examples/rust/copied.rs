@@ -1,4 +1,4 @@
-//! Prints what the module has of its own copy: the header's refusals in words, and the numbers of its calls. run compares.
+//! Prints what the module has of its own copy: the header's refusals in words, and the numbers of its calls and tables. run compares.
 
 mod nosgoludd;
 
@@ -39,5 +39,8 @@ fn main() {
     }
     for call in CALLS {
         println!("{call}");
+    }
+    for table in [Table::House, Table::Farm] {
+        println!("{}", table as u32);
     }
 }

@@ -1,4 +1,5 @@
-/* Prints what the Rust module has of its own copy: the header's refusals in words, and the numbers of its calls. run compares. */
+/* Prints what the Rust module has of its own copy: the header's refusals in words, and the numbers of its calls and tables. run
+ * compares. */
 #include <stdio.h>
 
 #include "nosgoludd.h"
@@ -17,5 +18,6 @@ int main(void)
 {
     for (uint32_t number = 0; number <= NOS_OVER_LENGTH; number++) printf("%u %s\n", number, nos_words(number));
     for (size_t i = 0; i < sizeof calls / sizeof calls[0]; i++) printf("%u\n", calls[i]);
+    printf("%d\n%d\n", NOS_IN_THE_HOUSE, NOS_IN_THE_FARM);
     return 0;
 }

@@ -56,18 +56,35 @@ mod c {
         pub fn nos_convert(call: u32, value: u32, buf: *mut u8, room: usize) -> Answer;
         pub fn nos_read_unsigned(text: *const u8, length: usize, whole: u32, limit: u32) -> Number;
         pub fn nos_check_table(table: *const u8, length: usize) -> Checked;
-        pub fn nos_look_up(name: *const u8, name_length: usize, table: *const u8, table_length: usize) -> Variable;
+        pub fn nos_look_up(
+            name: *const u8,
+            name_length: usize,
+            farm: *const u8,
+            farm_length: usize,
+            house: *const u8,
+            house_length: usize,
+        ) -> Variable;
         pub fn nos_translate(
             text: *const u8,
             length: usize,
-            table: *const u8,
-            table_length: usize,
+            farm: *const u8,
+            farm_length: usize,
+            house: *const u8,
+            house_length: usize,
             flags: u32,
             allowance: u32,
             out: *mut u8,
             room: usize,
         ) -> Answer;
-        pub fn nos_evaluate(text: *const u8, length: usize, table: *const u8, table_length: usize, allowance: u32) -> Value;
+        pub fn nos_evaluate(
+            text: *const u8,
+            length: usize,
+            farm: *const u8,
+            farm_length: usize,
+            house: *const u8,
+            house_length: usize,
+            allowance: u32,
+        ) -> Value;
     }
 
     // the structs lie in memory as the library lays them
@@ -140,6 +157,48 @@ pub const WORDS: [&str; 19] = [
     "Text or table over 65,535 bytes",
 ];
 
+/// The two tables that names are looked up in, each as by `check_table`: a farm's own variables, and those of the house, which all
+/// farms share. A name means the farm's variable, else the house's. Either table may be empty; by default both are.
+#[derive(Clone, Copy, Debug, Default, PartialEq, Eq)]
+pub struct Tables<'a> {
+    pub farm: &'a [u8],
+    pub house: &'a [u8],
+}
+
+impl<'a> Tables<'a> {
+    /// The bytes of one of the two.
+    pub fn bytes_of(self, table: Table) -> &'a [u8] {
+        match table {
+            Table::Farm => self.farm,
+            Table::House => self.house,
+        }
+    }
+}
+
+/// One of the two tables, by the header's number for what is counted in it.
+#[derive(Clone, Copy, Debug, PartialEq, Eq)]
+#[repr(u32)]
+pub enum Table {
+    House = 1,
+    Farm = 2,
+}
+
+impl Table {
+    /// The table that `counted` means, if it means one.
+    fn counted_by(counted: u32) -> Option<Table> {
+        [Table::House, Table::Farm].into_iter().find(|table| *table as u32 == counted)
+    }
+}
+
+impl fmt::Display for Table {
+    fn fmt(&self, f: &mut fmt::Formatter) -> fmt::Result {
+        f.write_str(match self {
+            Table::House => "the house table",
+            Table::Farm => "the farm's table",
+        })
+    }
+}
+
 /// Why there is no answer.
 #[derive(Clone, Copy, Debug, PartialEq, Eq)]
 pub struct Refusal {
@@ -147,8 +206,8 @@ pub struct Refusal {
     pub number: u32,
     /// Where, in bytes from 0.
     pub place: usize,
-    /// Whether the place is counted in the table; else it is in the text.
-    pub in_the_table: bool,
+    /// Which of the two tables the place is counted in; none where it is in the text, or in the one table of `check_table`.
+    pub table: Option<Table>,
     /// The room that would have been enough, where the number is `NO_ROOM`; else 0.
     pub need: usize,
 }
@@ -163,10 +222,10 @@ impl Refusal {
 impl fmt::Display for Refusal {
     fn fmt(&self, f: &mut fmt::Formatter) -> fmt::Result {
         let Refusal { number, place, need, .. } = self;
-        match (self.number, self.in_the_table) {
+        match (self.number, self.table) {
             (NO_ROOM, _) => write!(f, "refused {number}, {}, need {need}", self.words()),
-            (_, true) => write!(f, "refused {number} at {place} in the table, {}", self.words()),
-            (_, false) => write!(f, "refused {number} at {place}, {}", self.words()),
+            (_, Some(table)) => write!(f, "refused {number} at {place} in {table}, {}", self.words()),
+            (_, None) => write!(f, "refused {number} at {place}, {}", self.words()),
         }
     }
 }
@@ -177,7 +236,7 @@ impl std::error::Error for Refusal {}
 fn accepted(number: u32, counted: u32, place: usize, need: usize) -> Result<(), Refusal> {
     match number {
         0 => Ok(()),
-        _ => Err(Refusal { number, place, in_the_table: counted == 1, need }),
+        _ => Err(Refusal { number, place, table: Table::counted_by(counted), need }),
     }
 }
 
@@ -208,7 +267,7 @@ pub fn read_unsigned(text: &[u8], whole: bool, limit: u32) -> Result<Number, Ref
 pub fn check_table(table: &[u8]) -> Result<usize, Refusal> {
     // SAFETY: the pointer and the length are those of one slice.
     let a = unsafe { c::nos_check_table(table.as_ptr(), table.len()) };
-    accepted(a.number, 1, a.place, 0)?;
+    accepted(a.number, 0, a.place, 0)?;
     Ok(a.records as usize)
 }
 
@@ -219,18 +278,29 @@ pub enum Variable<'a> {
     Macro(&'a [u8]),
 }
 
-/// Looks a name up in a table.
-pub fn look_up<'a>(name: &[u8], table: &'a [u8]) -> Result<Variable<'a>, Refusal> {
+/// What a name means, and where.
+#[derive(Clone, Copy, Debug, PartialEq, Eq)]
+pub struct Found<'a> {
+    /// The bytes of a string or a macro are a part of the table that holds them.
+    pub variable: Variable<'a>,
+    pub table: Table,
+}
+
+/// Looks a name up: in the farm's table, then in the house's.
+pub fn look_up<'a>(name: &[u8], tables: Tables<'a>) -> Result<Found<'a>, Refusal> {
+    let Tables { farm, house } = tables;
     // SAFETY: each pointer and the length behind it are those of one slice.
-    let a = unsafe { c::nos_look_up(name.as_ptr(), name.len(), table.as_ptr(), table.len()) };
+    let a = unsafe { c::nos_look_up(name.as_ptr(), name.len(), farm.as_ptr(), farm.len(), house.as_ptr(), house.len()) };
     accepted(a.number, a.counted, a.place, 0)?;
-    let value = &table[a.start..][..a.length as usize];
-    Ok(match a.kind {
+    let table = Table::counted_by(a.counted).expect("a variable stands in one of the tables");
+    let value = &tables.bytes_of(table)[a.start..][..a.length as usize];
+    let variable = match a.kind {
         0 => Variable::String(value),
         1 => Variable::Integer(i32::from_le_bytes(value.try_into().expect("an integer has 4 bytes"))),
         2 => Variable::Macro(value),
         _ => unreachable!("a good table has no other kind"),
-    })
+    };
+    Ok(Found { variable, table })
 }
 
 #[derive(Clone, Copy, Debug, PartialEq, Eq)]
@@ -241,29 +311,40 @@ pub struct Translated<'a> {
     pub end: usize,
 }
 
-/// Translates a text into the start of `out`. An empty table knows no name; no translation takes more than 1,024 look-ups.
+/// Translates a text into the start of `out`. Empty tables know no name; no translation takes more than 1,024 look-ups.
 pub fn translate<'a>(
     text: &[u8],
-    table: &[u8],
+    Tables { farm, house }: Tables,
     flags: u32,
     allowance: u32,
     out: &'a mut [u8],
 ) -> Result<Translated<'a>, Refusal> {
     // SAFETY: each pointer and the length behind it are those of one slice, and `out` is exclusive, so it overlaps no other.
     let a = unsafe {
-        c::nos_translate(text.as_ptr(), text.len(), table.as_ptr(), table.len(), flags, allowance, out.as_mut_ptr(), out.len())
+        c::nos_translate(
+            text.as_ptr(),
+            text.len(),
+            farm.as_ptr(),
+            farm.len(),
+            house.as_ptr(),
+            house.len(),
+            flags,
+            allowance,
+            out.as_mut_ptr(),
+            out.len(),
+        )
     };
     accepted(a.number, a.counted, a.place, a.need)?;
     Ok(Translated { bytes: &out[..a.need], end: a.place })
 }
 
 /// Translates a text into as many bytes as it needs: asks with no room, and again with the need that the refusal carries.
-pub fn translate_to_vec(text: &[u8], table: &[u8], flags: u32, allowance: u32) -> Result<Vec<u8>, Refusal> {
-    match translate(text, table, flags, allowance, &mut []) {
+pub fn translate_to_vec(text: &[u8], tables: Tables, flags: u32, allowance: u32) -> Result<Vec<u8>, Refusal> {
+    match translate(text, tables, flags, allowance, &mut []) {
         Ok(_) => Ok(Vec::new()),
         Err(Refusal { number: NO_ROOM, need, .. }) => {
             let mut out = vec![0; need];
-            translate(text, table, flags, allowance, &mut out)?;
+            translate(text, tables, flags, allowance, &mut out)?;
             Ok(out)
         }
         Err(refusal) => Err(refusal),
@@ -277,10 +358,11 @@ pub struct Evaluated {
     pub end: usize,
 }
 
-/// Evaluates an expression of signed 32-bit numbers over a table of variables.
-pub fn evaluate(text: &[u8], table: &[u8], allowance: u32) -> Result<Evaluated, Refusal> {
+/// Evaluates an expression of signed 32-bit numbers over two tables of variables.
+pub fn evaluate(text: &[u8], Tables { farm, house }: Tables, allowance: u32) -> Result<Evaluated, Refusal> {
     // SAFETY: each pointer and the length behind it are those of one slice.
-    let a = unsafe { c::nos_evaluate(text.as_ptr(), text.len(), table.as_ptr(), table.len(), allowance) };
+    let a =
+        unsafe { c::nos_evaluate(text.as_ptr(), text.len(), farm.as_ptr(), farm.len(), house.as_ptr(), house.len(), allowance) };
     accepted(a.number, a.counted, a.place, 0)?;
     Ok(Evaluated { value: a.value, end: a.place })
 }
