@@ -6,7 +6,7 @@ use denote.Ref.{now}
 use Rattle.numbers.proofs.PaperNumbers.{converted-kept}
 use Rattle.filter.specs.Answers.{answerTo}
 use Rattle.nosgoludd.specs.Faces.{answerFace}
-use Rattle.promises.specs.Ties.{Convert, ReadUnsigned, CheckTable, LookUp, Translate, Evaluate, NosConvert, NosReadUnsigned, NosCheckTable, NosLookUp, NosTranslate, NosEvaluate, ProgramAnswer, Any}
+use Rattle.promises.specs.Ties.{Convert, ReadUnsigned, CheckTable, LookUp, LookUpValue, Translate, Evaluate, NosConvert, NosReadUnsigned, NosCheckTable, NosLookUp, NosTranslate, NosEvaluate, ProgramAnswer, Any}
 
 pub convert : Convert
 convert κs call value buf after r learnt = record { answer = learnt .0; buffer = learnt .1 }
@@ -18,13 +18,16 @@ pub check-table : CheckTable
 check-table κs table r learnt = record { answer = learnt }
 
 pub look-up : LookUp
-look-up κs table name r learnt = record { answer = learnt }
+look-up κs farm house name r learnt = record { answer = learnt }
+
+pub look-up-value : LookUpValue
+look-up-value κs farm house name r learnt = record { answer = learnt }
 
 pub translate : Translate
-translate κs text table flags allowance out after r learnt = record { answer = learnt .0; buffer = learnt .1 }
+translate κs text farm house flags allowance out after r learnt = record { answer = learnt .0; buffer = learnt .1 }
 
 pub evaluate : Evaluate
-evaluate κs text table allowance r learnt = record { answer = learnt }
+evaluate κs text farm house allowance r learnt = record { answer = learnt }
 
 pub nos-convert : NosConvert
 nos-convert κs call value buf after r learnt =
@@ -41,14 +44,14 @@ pub nos-check-table : NosCheckTable
 nos-check-table κs table r learnt = record { answer = _; allowed = record { answer = refl }; face = learnt }
 
 pub nos-look-up : NosLookUp
-nos-look-up κs name table r learnt = record { answer = _; allowed = record { answer = refl }; face = learnt }
+nos-look-up κs name farm house r learnt = record { answer = _; allowed = record { answer = refl }; face = learnt }
 
 pub nos-translate : NosTranslate
-nos-translate κs text table flags allowance out after r learnt =
+nos-translate κs text farm house flags allowance out after r learnt =
     record { answer = _; allowed = record { answer = refl; buffer = learnt .1 }; face = learnt .0 }
 
 pub nos-evaluate : NosEvaluate
-nos-evaluate κs text table allowance r learnt = record { answer = _; allowed = record { answer = refl }; face = learnt }
+nos-evaluate κs text farm house allowance r learnt = record { answer = _; allowed = record { answer = refl }; face = learnt }
 
 pub program-answer : ProgramAnswer
 program-answer κs text out after r learnt =
@@ -60,14 +63,15 @@ any =
       convert = λ κs call value buf. tt;
       read-unsigned = λ κs text whole limit. tt;
       check-table = λ κs table. tt;
-      look-up = λ κs table name. tt;
-      translate = λ κs text table flags allowance out. tt;
-      evaluate = λ κs text table allowance. tt;
+      look-up = λ κs farm house name. tt;
+      look-up-value = λ κs farm house name. tt;
+      translate = λ κs text farm house flags allowance out. tt;
+      evaluate = λ κs text farm house allowance. tt;
       nos-convert = λ κs call value buf. tt;
       nos-read-unsigned = λ κs text whole limit. tt;
       nos-check-table = λ κs table. tt;
-      nos-look-up = λ κs name table. tt;
-      nos-translate = λ κs text table flags allowance out. tt;
-      nos-evaluate = λ κs text table allowance. tt;
+      nos-look-up = λ κs name farm house. tt;
+      nos-translate = λ κs text farm house flags allowance out. tt;
+      nos-evaluate = λ κs text farm house allowance. tt;
       program = λ κs text out. tt;
     }

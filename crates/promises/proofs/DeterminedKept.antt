@@ -21,7 +21,8 @@ use Rattle.reader.specs.Reading.{reading}
 use Rattle.records.specs.Records as Records
 use Rattle.records.specs.Kinds.{kindNumber, pattern, variableAt}
 use Rattle.records.specs.inner.Keys.{keyOf}
-use Rattle.variables.specs.Tables.{checked, lookedUp}
+use Rattle.variables.specs.Tables.{checked}
+use Rattle.variables.specs.Lookups.{lookedUp, partOf}
 use Rattle.variables.specs.inner.Keys.{KeyedAs, matchAs, soughtBy}
 use Rattle.variables.proofs.KeysFind.{one-keyed}
 use Rattle.symbols.specs.Flags.{has}
@@ -111,16 +112,19 @@ determined =
       part = function-of (λ (table, (start, (size, _))). take size (drop start table)) (λ κs a r after c. c);
       name-at = function-of (λ (table, (place, _)). Records.nameAt table place) (λ κs a r after c. c);
       next-place = function-of (λ (table, (place, _)). Records.nextPlace table place) (λ κs a r after c. c);
-      variable-at = function-of (λ (table, (place, _)). variableAt table (Records.entryAt table place)) (λ κs a r after c. c);
+      variable-at = function-of (λ (holder, (table, (place, _))). variableAt holder table (Records.entryAt table place)) (λ κs a r after c. c);
       is-shaped = function-of (λ (table, (place, _)). Records.shaped table place) (λ κs a r after c. c);
       key-of = function-of (λ (name, _). keyOf name) (λ κs a r after c. c .0);
       same-name = function-of (λ (name, (other, _)). Records.sameName name other) (λ κs a r after c. c);
       kind-number = function-of (λ (kind, _). kindNumber kind) (λ κs a r after c. c);
       pattern-of = function-of (λ (value, _). pattern value) (λ κs a r after c. c);
-      key-table =
-          record { one = λ κs κs′ a a′ r r′ after after′ same c c′. one-keyed (now (a′ .0)) r r′ (subst (λ g. KeyedAs (g .0) r) same c) c′ };
-      value-of = function-of (λ (table, (v, _)). take (v .length) (drop (v .start) table)) (λ κs a r after c. c);
-      find = function-of (λ (table, (keys, (name, _))). matchAs table (soughtBy table keys name)) (λ κs a r after c. c);
+      key-tables =
+          record {
+            one = λ κs κs′ a a′ r r′ after after′ same c c′.
+                one-keyed (now (a′ .0)) (now (a′ .1 .0)) r r′ (subst (λ g. KeyedAs (g .0) (g .1 .0) r) same c) c′;
+          };
+      value-of = function-of (λ (farm, (house, (v, _))). partOf farm house v) (λ κs a r after c. c);
+      find = function-of (λ (farm, (house, (keys, (name, _)))). matchAs farm house (soughtBy farm house keys name)) (λ κs a r after c. c);
       symbol-at = function-of (λ (text, (flags, (mode, (at, _)))). symbolAt text (flags .0) mode at) (λ κs a r after c. c);
       open-text =
           function-of (λ (text, (flags, _)). record { at = firstAt text (flags .0); mode = modeOf text (flags .0) })
@@ -133,7 +137,7 @@ determined =
           function-of (λ (text, (start, (spacesEnd, _))). start + Bytes.runOf (plainByte (alsoEnds spacesEnd)) (drop start text)) (λ κs a r after c. c);
       put = function-of (λ (byte, (to, (out, _))). (tt, laidAt out to (byte ∷ []))) (λ κs a r after c. ap (λ out. (tt, out)) c);
       copy = function-of (λ (given, (to, (out, _))). (tt, laidAt out to given)) (λ κs a r after c. ap (λ out. (tt, out)) c);
-      resolve = function-of (λ (content, (table, (keys, _))). referredBy table keys content) (λ κs a r after c. c);
+      resolve = function-of (λ (content, (farm, (house, (keys, _)))). referredBy farm house keys content) (λ κs a r after c. c);
       level = function-of (λ (operator, _). Operators.levelOf operator) (λ κs a r after c. c);
       stands-alone = function-of (λ (operator, _). Operators.standsAlone operator) (λ κs a r after c. c);
       divides = function-of (λ (operator, _). Operators.divides operator) (λ κs a r after c. c);
@@ -153,7 +157,8 @@ determined =
       joined-part = function-of (λ (operator, (place, (lhs, (rhs, _)))). Parts.joinedPart operator place lhs rhs) (λ κs a r after c. c);
       leaf-number = function-of (λ (value, (next, (account, _))). numberPart value next account) (λ κs a r after c. c);
       leaf-named =
-          function-of (λ (name, (table, (keys, (place, (next, (account, _)))))). namedPart table keys name place next account) (λ κs a r after c. c);
+          function-of (λ (name, (farm, (house, (keys, (place, (next, (account, _))))))). namedPart farm house keys name place next account)
+          (λ κs a r after c. c);
       answer =
           function-of (λ (text, (out, _)). (length (answerTo text), answerTo text ++ drop (length (answerTo text)) out))
           (λ κs a r after c. ap₂ (λ r out. (r, out)) (c .0) (c .1 ∙ ap (λ n. answerTo (now (a .0)) ++ drop n (now (a .1 .0))) (c .0)));
@@ -163,11 +168,11 @@ determined =
       nos-read-unsigned =
           function-of (λ (text, (whole, (limit, _))). readingFace (reading text (not (eqb whole 0)) limit)) (λ κs a r after c. c);
       nos-check-table = function-of (λ (table, _). checkFace (checked table)) (λ κs a r after c. c);
-      nos-look-up = function-of (λ (name, (table, _)). foundFace (lookedUp table name)) (λ κs a r after c. c);
+      nos-look-up = function-of (λ (name, (farm, (house, _))). foundFace (lookedUp farm house name)) (λ κs a r after c. c);
       nos-translate =
           function-of
-          (λ (text, (table, (flags, (allowance, (out, _))))).
-          (answerFace (translatedAnswer (translated text table flags allowance (length out))), outAfter text table flags allowance out))
+          (λ (text, (farm, (house, (flags, (allowance, (out, _)))))).
+          (answerFace (translatedAnswer (translated text farm house flags allowance (length out))), outAfter text farm house flags allowance out))
           (λ κs a r after c. ap₂ (λ r out. (r, out)) (c .0) (c .1));
-      nos-evaluate = function-of (λ (text, (table, (allowance, _))). evaluationFace (evaluated text table allowance)) (λ κs a r after c. c);
+      nos-evaluate = function-of (λ (text, (farm, (house, (allowance, _)))). evaluationFace (evaluated text farm house allowance)) (λ κs a r after c. c);
     }

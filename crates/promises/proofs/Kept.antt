@@ -4,6 +4,7 @@ use Rattle.promises.proofs.Contracts as Contracts
 use Rattle.promises.proofs.WorkedExamples.{worked-examples}
 use Rattle.promises.proofs.ConversionsKept as Conversions
 use Rattle.promises.proofs.ReadingsKept as Readings
+use Rattle.promises.proofs.TwoTablesKept as TwoTables
 use Rattle.promises.proofs.LookupsKept as Lookups
 use Rattle.promises.proofs.TranslationsKept as Translations
 use Rattle.promises.proofs.EvaluationsKept as Evaluations
@@ -28,6 +29,12 @@ promises =
       read-one-answer = Readings.one-answer;
       read-accepts = Readings.accepts;
       read-refusals = Readings.refusals;
+      tables-judged-in-order = TwoTables.in-order;
+      farm-first = TwoTables.farm-first;
+      house-next = TwoTables.house-next;
+      empty-farm = TwoTables.empty-farm;
+      macro-of-either = TwoTables.macro-of-either;
+      one-look-up = TwoTables.one-look-up;
       check-tied = Contracts.check-table;
       check-one-answer = Lookups.one-check;
       check-accepts = Lookups.check-accepts;
@@ -38,9 +45,14 @@ promises =
       look-up-one-answer = Lookups.one-found;
       look-up-accepts = Lookups.look-up-accepts;
       look-up-refusals = Lookups.look-up-refusals;
+      look-up-judges = Lookups.judges;
       look-up-finds = Lookups.finds;
+      look-up-hides = Lookups.hides;
       look-up-misses = Lookups.misses;
       look-up-inside = Lookups.inside;
+      look-up-value-tied = Contracts.look-up-value;
+      look-up-value-one-part = Lookups.one-part;
+      look-up-value-part = Lookups.part;
       translate-tied = Contracts.translate;
       translate-one-answer = Translations.one-answer;
       translate-accepts = Translations.accepts;

@@ -5,6 +5,7 @@ pub mod Outcomes
 pub mod WorkedExamples
 pub mod ConversionsKept
 pub mod ReadingsKept
+pub mod TwoTablesKept
 pub mod LookupsKept
 pub mod TranslationsKept
 pub mod EvaluationsKept

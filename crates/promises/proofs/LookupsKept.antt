@@ -1,38 +1,54 @@
--- What `check_table` and `look_up` promise is kept.
+-- What `check_table`, `look_up` and `look_up_value` promise is kept.
 use mathlib.Core.Path.{_≡_, refl, ap, sym, subst, _∙_}
 use mathlib.Core.Bool.{true, false}
-use mathlib.Core.List.{List, List·Memᴰ, Memᴰ·cast}
+use mathlib.Core.List.{List, [], List·Memᴰ, Memᴰ·cast}
 use mathlib.Core.Logic.{_↔_}
-use Prim.Native.Nat.{ℕ, _+_, _≤_}
+use Prim.Native.Nat.{ℕ, _+_, _≤_, _<_}
 use native.Mathlib.Omega.{arith}
-use lib.ListN.{length}
-use Rattle.paper.specs.Refusals.{unknown-name}
+use lib.ListN.{length, take, drop}
+use Rattle.paper.specs.Answers.{in-farm, countedIn}
+use Rattle.paper.specs.Refusals.{unknown-name, allowance-spent}
+use Rattle.paper.specs.declared.Holder.{Holder}
+use Rattle.paper.specs.declared.Holder.the-variants.{Farm, House}
+use Rattle.paper.specs.declared.RecordPlace.{RecordPlace}
 use Rattle.paper.proofs.Choice.{clash}
 use Rattle.records.specs.Records.{Entry, sameName}
+use Rattle.records.specs.Kinds.{kindOf, kindNumber}
 use Rattle.records.proofs.KindLaws.{kind-number}
 use Rattle.records.proofs.Whole.{own-value}
-use Rattle.variables.specs.Tables.{Sought, absent, present, checked, recordsOf, soughtIn, foundAs, foundIn, lookedUp, checkNumber, foundNumber, foundStart, foundLength}
+use Rattle.variables.specs.Tables.{present, checked, recordsOf, soughtIn, checkNumber}
+use Rattle.variables.specs.Holdings.{heldBy, Holding, nowhere, held, soughtInBoth}
+use Rattle.variables.specs.Judgements.{badTable, judged}
+use Rattle.variables.specs.Lookups.{foundAs, foundBy, lookedUp, valuePart, foundNumber, foundCounted, foundPlace, foundKind, foundStart, foundLength}
 use Rattle.variables.specs.declared.Checked.{Checked}
-use Rattle.variables.specs.declared.Checked.the-variants.{Good as GoodTable, BadTable}
-use Rattle.variables.specs.declared.Found.{Found}
-use Rattle.variables.proofs.Bounds.{checked-bounded, over-length-exactly, looked-up-bounded}
+use Rattle.variables.specs.declared.Checked.the-variants.{Good as GoodTable, BadTable as OfBadTable}
+use Rattle.variables.specs.declared.both.Found.{Found}
+use Rattle.variables.specs.declared.both.Found.the-variants.{At, Unknown, BadTable}
+use Rattle.variables.specs.declared.both.Judged.{Judged}
+use Rattle.variables.specs.declared.both.Judged.the-variants.{Good as AllGood, BadTable as OneBad}
+use Rattle.variables.proofs.Bounds.{checked-bounded, over-length-exactly, good-table, bad-number, looked-up-bounded}
 use Rattle.variables.proofs.Format.{format}
-use Rattle.variables.proofs.Good.{laid, wholes}
-use Rattle.variables.proofs.Unique.{found, unique, missed, unmet}
+use Rattle.variables.proofs.Good.{Laid, laid, wholes}
+use Rattle.variables.proofs.Judging.{both-good, judged-so, both-are}
+use Rattle.variables.proofs.Own.{Where, in-farm as found-in-farm, in-house as found-in-house, in-neither, sought-where}
+use Rattle.variables.proofs.Unique.{found, unique, missed, unmet, same-sought, own}
 use Rattle.promises.specs.Accepted.{isGood, isKnown}
-use Rattle.promises.specs.Lookups.{OneCheck, OneFound, CheckAccepts, LookUpAccepts, CheckRefusals, LookUpRefusals, OverLength, Records, Good, Names, Finds, Misses, Inside}
+use Rattle.promises.specs.Lookups.{OneCheck, OneFound, OnePart, CheckAccepts, LookUpAccepts, CheckRefusals, LookUpRefusals, OverLength, Records, Good, Judges, Names, Finds, Hides, Misses, Inside, Part}
 
 pub one-check : OneCheck
 one-check table r r′ c c′ = c .answer ∙ sym (c′ .answer)
 
 pub one-found : OneFound
-one-found table name r r′ c c′ = c .answer ∙ sym (c′ .answer)
+one-found farm house name r r′ c c′ = c .answer ∙ sym (c′ .answer)
+
+pub one-part : OnePart
+one-part farm house name part part′ c c′ = c .answer ∙ sym (c′ .answer)
 
 pub check-refusals : CheckRefusals
 check-refusals table r c = Memᴰ·cast (ap checkNumber (c .answer)) (checked-bounded table .listed)
 
 pub look-up-refusals : LookUpRefusals
-look-up-refusals table name r c = Memᴰ·cast (ap foundNumber (c .answer)) (looked-up-bounded table name .listed)
+look-up-refusals farm house name r c = Memᴰ·cast (ap foundNumber (c .answer)) (looked-up-bounded farm house name .listed)
 
 pub over-length : OverLength
 over-length table r c =
@@ -44,13 +60,13 @@ module _ (table : List ℕ) where
   -- a table whose number is 0 is a good one
   check-accepts-by : (d : Checked) → checked table ≡ d → (checkNumber d ≡ 0) ↔ (isGood d ≡ true)
   check-accepts-by (GoodTable n) e = (λ _. refl, λ _. refl)
-  check-accepts-by (BadTable number at) e = (λ z. absurd (omega (arith, checked-bounded table .refused number at e)), λ z. clash (cc))
+  check-accepts-by (OfBadTable number at) e = (λ z. absurd (omega (arith, checked-bounded table .refused number at e)), λ z. clash (cc))
 
   records-of : (d : Checked) → checked table ≡ d → checkNumber d ≡ 0 → Records table d
   records-of (GoodTable n) e z =
       let l = laid table e in
       record { bytes = format table e; count = l .counted; few = l .few; sounds = l .sounds; unequal = λ e f a b same. unique l a b same }
-  records-of (BadTable number at) e z = absurd (omega (arith, checked-bounded table .refused number at e))
+  records-of (OfBadTable number at) e z = absurd (omega (arith, checked-bounded table .refused number at e))
 
 pub check-accepts : CheckAccepts
 check-accepts table r c = check-accepts-by table r (sym (c .answer))
@@ -58,88 +74,186 @@ check-accepts table r c = check-accepts-by table r (sym (c .answer))
 pub records : Good
 records table r c = records-of table r (sym (c .answer))
 
-module _ (table name : List ℕ) where
-  -- in a good table: the record that has the name, or none
-  module _ (n : ℕ) (good : checked table ≡ GoodTable n) where
-    names-in : (s : Sought) → soughtIn table name ≡ s → foundNumber (foundAs table s) ≡ 0 → Names table name (foundAs table s)
-    names-in absent e z = absurd (omega arith)
-    names-in (present entry) e z =
-        let l = laid table good in
-        let f = found (recordsOf table) name e in
-        let w = wholes l (f .0) in
-        record {
-          entry = entry;
-          member = f .0;
-          named = f .1;
-          place = refl;
-          kind = kind-number (entry .kind) (w .kind);
-          value = sym (own-value table entry (w .starts));
-        }
+-- the two tables are counted in two numbers
+told-apart : (h h′ : Holder) → countedIn h ≡ countedIn h′ → h ≡ h′
+told-apart Farm Farm e = refl
+told-apart Farm House e = absurd (omega arith)
+told-apart House Farm e = absurd (omega arith)
+told-apart House House e = refl
 
-    known-in : (s : Sought) → (foundNumber (foundAs table s) ≡ 0) ↔ (isKnown (foundAs table s) ≡ true)
-    known-in absent = (λ z. absurd (omega arith), λ z. clash (cc))
-    known-in (present entry) = (λ _. refl, λ _. refl)
+module _ (farm house name : List ℕ) where
+  abbrev sought : Holding
+  sought = soughtInBoth farm house name
 
-    missed-in : (s : Sought) → soughtIn table name ≡ s
-        → (foundNumber (foundAs table s) ≡ unknown-name) ↔ ((e : Entry) → List·Memᴰ e (recordsOf table) → sameName (e .name) name ≡ false)
-    missed-in absent e = (λ _. missed (laid table good) name e, λ _. refl)
-    missed-in (present entry) e = (
-      λ z. absurd (omega arith),
-      λ h. clash (cc (sym e ∙ unmet (recordsOf table) name h)),
-    )
+  abbrev F : Holding → Found
+  F h = foundAs farm house h
 
-    inside-in : (s : Sought) → soughtIn table name ≡ s → foundNumber (foundAs table s) ≡ 0
-        → foundStart (foundAs table s) + foundLength (foundAs table s) ≤ length table
-    inside-in absent e z = absurd (omega arith)
-    inside-in (present entry) e z =
-        let w = wholes (laid table good) (found (recordsOf table) name e .0) in
-        omega (arith, w .inside, w .name-length, w .value-length)
+  -- in good tables: the record that has the name, or none
+  module _ (count : ℕ) (good : judged farm house ≡ AllGood count) where
+    laid-in : (holder : Holder) → (n : ℕ) × Laid (heldBy holder farm house) n
+    laid-in Farm = let g = both-are farm house good in (g .own, laid farm (g .farm-good))
+    laid-in House = let g = both-are farm house good in (g .rest, laid house (g .house-good))
 
-  -- in any bytes: a table that is not good has a refusal's number, which is not that of an unknown name
-  known-by : (d : Checked) → checked table ≡ d → (foundNumber (foundIn table name d) ≡ 0) ↔ (isKnown (foundIn table name d) ≡ true)
-  known-by (GoodTable n) e = known-in n e (soughtIn table name)
-  known-by (BadTable number at) e = (λ z. absurd (omega (arith, checked-bounded table .refused number at e)), λ z. clash (cc))
+    module _ (holder : Holder) (e : Entry) (is : soughtIn (heldBy holder farm house) name ≡ present e) where
+      abbrev table : List ℕ
+      table = heldBy holder farm house
 
-  names-by : (d : Checked) → checked table ≡ d → foundNumber (foundIn table name d) ≡ 0 → Names table name (foundIn table name d)
-  names-by (GoodTable n) e z = names-in n e (soughtIn table name) refl z
-  names-by (BadTable number at) e z = absurd (omega (arith, checked-bounded table .refused number at e))
+      named : Names farm house name (F (held holder e))
+      named =
+          let f = found (recordsOf table) name is in
+          let w = wholes (laid-in holder .1) (f .0) in
+          record {
+            holder = holder;
+            counted = refl;
+            entry = e;
+            member = f .0;
+            named = f .1;
+            place = refl;
+            kind = kind-number (e .kind) (w .kind);
+            value = sym (own-value holder table e (w .starts));
+          }
 
-  missed-by : (d : Checked) → checked table ≡ d
-      → (foundNumber (foundIn table name d) ≡ unknown-name)
-      ↔ ((checkNumber d ≡ 0) × ((e : Entry) → List·Memᴰ e (recordsOf table) → sameName (e .name) name ≡ false))
-  missed-by (GoodTable n) e = let m = missed-in n e (soughtIn table name) refl in (λ z. (refl, m .0 z), λ h. m .1 (h .1))
-  missed-by (BadTable number at) e = (
-    λ z. absurd (omega (arith, checked-bounded table .refused number at e)),
-    λ h. absurd (omega (arith, checked-bounded table .refused number at e, h .0)),
+      within : (h : Holder) → countedIn holder ≡ countedIn h → foundStart (F (held holder e)) + foundLength (F (held holder e)) ≤ length (heldBy h farm house)
+      within h q =
+          let w = wholes (laid-in holder .1) (found (recordsOf table) name is .0) in
+          subst (λ k. foundStart (F (held holder e)) + foundLength (F (held holder e)) ≤ length (heldBy k farm house)) (told-apart holder h q)
+          (omega (arith, w .inside, w .name-length, w .value-length))
+
+    abbrev NoneHas : Type 0
+    NoneHas = (holder : Holder) (e : Entry) → List·Memᴰ e (recordsOf (heldBy holder farm house)) → sameName (e .name) name ≡ false
+
+    names-in : {h : Holding} → Where farm house name h → foundNumber (F h) ≡ 0 → Names farm house name (F h)
+    names-in (found-in-farm e p) z = named Farm e p
+    names-in (found-in-house e n p) z = named House e p
+    names-in (in-neither n m) z = absurd (omega arith)
+
+    missed-in : {h : Holding} → Where farm house name h → (foundNumber (F h) ≡ unknown-name) ↔ NoneHas
+    missed-in (found-in-farm e p) = (λ z. absurd (omega arith), λ none. clash (cc (sym p ∙ unmet (recordsOf farm) name (none Farm))))
+    missed-in (found-in-house e n p) = (λ z. absurd (omega arith), λ none. clash (cc (sym p ∙ unmet (recordsOf house) name (none House))))
+    missed-in (in-neither n m) = (λ _. none, λ _. refl)
+      where
+        none : NoneHas
+        none Farm = missed (laid-in Farm .1) name n
+        none House = missed (laid-in House .1) name m
+
+    inside-in : {h : Holding} → Where farm house name h → (holder : Holder) → foundNumber (F h) ≡ 0 → foundCounted (F h) ≡ countedIn holder
+        → foundStart (F h) + foundLength (F h) ≤ length (heldBy holder farm house)
+    inside-in (found-in-farm e p) holder z q = within Farm e p holder q
+    inside-in (found-in-house e n p) holder z q = within House e p holder q
+    inside-in (in-neither n m) holder z q = omega arith
+
+    hidden-in : {h : Holding} → Where farm house name h → (e : Entry) → List·Memᴰ e (recordsOf farm) → sameName (e .name) name ≡ true
+        → (foundCounted (F h) ≡ in-farm) × (foundPlace (F h) ≡ e .place) × (foundKind (F h) ≡ e .kind)
+    hidden-in (found-in-farm f p) e m same =
+        let l = laid-in Farm .1 in
+        let one : present f ≡ present e = sym p ∙ sym (same-sought (recordsOf farm) (e .name) name same) ∙ own l m in
+        let is : f ≡ e = cc in
+        let w = wholes l m in
+        (refl, ap (λ (x : Entry). x .place) is, ap (λ (x : Entry). kindNumber (kindOf (x .kind))) is ∙ kind-number (e .kind) (w .kind))
+    hidden-in (found-in-house f n p) e m same =
+        clash (cc (sym n ∙ sym (same-sought (recordsOf farm) (e .name) name same) ∙ own (laid-in Farm .1) m))
+    hidden-in (in-neither n k) e m same =
+        clash (cc (sym n ∙ sym (same-sought (recordsOf farm) (e .name) name same) ∙ own (laid-in Farm .1) m))
+
+  abbrev G : Judged → Found
+  G d = foundBy farm house name d
+
+  -- a refusal of the tables has a number that is neither 0 nor that of an unknown name
+  module _ (number : ℕ) (holder : Holder) (at : RecordPlace) (e : judged farm house ≡ OneBad number holder at) where
+    numbered : allowance-spent < number
+    numbered = bad-number farm house number holder (at .0) e
+
+  known-in : (h : Holding) → (foundNumber (F h) ≡ 0) ↔ (isKnown (F h) ≡ true)
+  known-in nowhere = (λ z. absurd (omega arith), λ z. clash (cc))
+  known-in (held holder e) = (λ _. refl, λ _. refl)
+
+  known-by : (d : Judged) → judged farm house ≡ d → (foundNumber (G d) ≡ 0) ↔ (isKnown (G d) ≡ true)
+  known-by (AllGood n) e = known-in sought
+  known-by (OneBad number holder at) e = (λ z. absurd (omega (arith, numbered number holder at e)), λ z. clash (cc))
+
+  names-by : (d : Judged) → judged farm house ≡ d → foundNumber (G d) ≡ 0 → Names farm house name (G d)
+  names-by (AllGood n) e z = names-in n e (sought-where farm house name) z
+  names-by (OneBad number holder at) e z = absurd (omega (arith, numbered number holder at e))
+
+  abbrev Missed : Type 0
+  Missed =
+      (checkNumber (checked farm) ≡ 0) × (checkNumber (checked house) ≡ 0)
+      × ((holder : Holder) (e : Entry) → List·Memᴰ e (recordsOf (heldBy holder farm house)) → sameName (e .name) name ≡ false)
+
+  missed-by : (d : Judged) → judged farm house ≡ d → (foundNumber (G d) ≡ unknown-name) ↔ Missed
+  missed-by (AllGood n) e =
+      let g = both-are farm house e in
+      let m = missed-in n e (sought-where farm house name) in
+      (λ z. (ap checkNumber (g .farm-good), ap checkNumber (g .house-good), m .0 z), λ h. m .1 (h .2))
+  missed-by (OneBad number holder at) e = (
+    λ z. absurd (omega (arith, numbered number holder at e)),
+    λ (f, h, none).
+        let g = good-table farm f in
+        let k = good-table house h in
+        clash (cc (sym e ∙ judged-so farm house (both-good (laid farm (g .1) .short) (laid house (k .1) .short) (g .0) (g .1) (k .0) (k .1)))),
   )
 
-  inside-by : (d : Checked) → checked table ≡ d → foundNumber (foundIn table name d) ≡ 0
-      → foundStart (foundIn table name d) + foundLength (foundIn table name d) ≤ length table
-  inside-by (GoodTable n) e z = inside-in n e (soughtIn table name) refl z
-  inside-by (BadTable number at) e z = omega arith
+  inside-by : (d : Judged) → judged farm house ≡ d → (holder : Holder) → foundNumber (G d) ≡ 0 → foundCounted (G d) ≡ countedIn holder
+      → foundStart (G d) + foundLength (G d) ≤ length (heldBy holder farm house)
+  inside-by (AllGood n) e holder z q = inside-in n e (sought-where farm house name) holder z q
+  inside-by (OneBad number holder at) e h z q = omega arith
 
-  defined : foundIn table name (checked table) ≡ lookedUp table name
+  hidden-by : (d : Judged) → judged farm house ≡ d → (e : Entry) → foundNumber (G d) ≡ 0 → List·Memᴰ e (recordsOf farm) → sameName (e .name) name ≡ true
+      → (foundCounted (G d) ≡ in-farm) × (foundPlace (G d) ≡ e .place) × (foundKind (G d) ≡ e .kind)
+  hidden-by (AllGood n) q e z m same = hidden-in n q (sought-where farm house name) e m same
+  hidden-by (OneBad number holder at) q e z m same = absurd (omega (arith, numbered number holder at q))
+
+  defined : G (judged farm house) ≡ lookedUp farm house name
   unfolding lookedUp
   defined = refl
 
--- a look-up's answer is that in the table as it was checked
-checked-as : (table name : List ℕ) (r : Found) → r ≡ lookedUp table name → foundIn table name (checked table) ≡ r
-checked-as table name r e = defined table name ∙ sym e
+-- a look-up's answer is that in the tables as they were judged
+judged-as : (farm house name : List ℕ) (r : Found) → r ≡ lookedUp farm house name → foundBy farm house name (judged farm house) ≡ r
+judged-as farm house name r e = defined farm house name ∙ sym e
 
 pub look-up-accepts : LookUpAccepts
-look-up-accepts table name r c =
-    subst (λ r. (foundNumber r ≡ 0) ↔ (isKnown r ≡ true)) (checked-as table name r (c .answer)) (known-by table name (checked table) refl)
+look-up-accepts farm house name r c =
+    subst (λ r. (foundNumber r ≡ 0) ↔ (isKnown r ≡ true)) (judged-as farm house name r (c .answer)) (known-by farm house name (judged farm house) refl)
+
+pub judges : Judges
+judges farm house name r number holder place c e =
+    let is : r ≡ foundBy farm house name (badTable number holder place) = sym (judged-as farm house name r (c .answer)) ∙ ap (foundBy farm house name) e in
+    (ap foundNumber is, ap foundCounted is, ap foundPlace is)
 
 pub finds : Finds
-finds table name r c =
-    subst (λ r. foundNumber r ≡ 0 → Names table name r) (checked-as table name r (c .answer)) (names-by table name (checked table) refl)
+finds farm house name r c =
+    subst (λ r. foundNumber r ≡ 0 → Names farm house name r) (judged-as farm house name r (c .answer)) (names-by farm house name (judged farm house) refl)
+
+pub hides : Hides
+hides farm house name r e c =
+    subst (λ r. foundNumber r ≡ 0 → List·Memᴰ e (recordsOf farm) → sameName (e .name) name ≡ true
+        → (foundCounted r ≡ in-farm) × (foundPlace r ≡ e .place) × (foundKind r ≡ e .kind))
+    (judged-as farm house name r (c .answer)) (λ z m same. hidden-by farm house name (judged farm house) refl e z m same)
 
 pub misses : Misses
-misses table name r c =
-    subst (λ r. (foundNumber r ≡ unknown-name) ↔ ((checkNumber (checked table) ≡ 0) × ((e : Entry) → List·Memᴰ e (recordsOf table) → sameName (e .name) name ≡ false)))
-    (checked-as table name r (c .answer)) (missed-by table name (checked table) refl)
+misses farm house name r c =
+    subst (λ r. (foundNumber r ≡ unknown-name) ↔ Missed farm house name) (judged-as farm house name r (c .answer))
+    (missed-by farm house name (judged farm house) refl)
 
 pub inside : Inside
-inside table name r c =
-    subst (λ (f : Found). foundNumber f ≡ 0 → foundStart f + foundLength f ≤ length table) (checked-as table name r (c .answer))
-    (inside-by table name (checked table) refl)
+inside farm house name r holder c =
+    subst (λ (f : Found). foundNumber f ≡ 0 → foundCounted f ≡ countedIn holder → foundStart f + foundLength f ≤ length (heldBy holder farm house))
+    (judged-as farm house name r (c .answer)) (inside-by farm house name (judged farm house) refl holder)
+
+-- the part of what was found, by the table that it is counted in
+part-of : (farm house : List ℕ) (r : Found)
+    → ((holder : Holder) → foundNumber r ≡ 0 → foundCounted r ≡ countedIn holder
+    → valuePart farm house r ≡ take (foundLength r) (drop (foundStart r) (heldBy holder farm house)))
+    × ((foundNumber r ≡ 0 → ⊥) → valuePart farm house r ≡ [])
+part-of farm house (At v) = (
+  λ holder z q. ap (λ h. take (v .length) (drop (v .start) (heldBy h farm house))) (told-apart (v .holder) holder q),
+  λ n. absurd (n refl),
+)
+part-of farm house Unknown = (λ holder z q. absurd (omega arith), λ _. refl)
+part-of farm house (BadTable number holder at) = (λ h z q. refl, λ _. refl)
+
+pub part : Part
+part farm house name handed r c p =
+    let same : handed ≡ valuePart farm house r = p .answer ∙ ap (valuePart farm house) (sym (c .answer)) in
+    let o = part-of farm house r in
+    (λ holder z q. same ∙ o .0 holder z q, λ n. same ∙ o .1 n)

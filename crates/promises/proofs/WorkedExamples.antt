@@ -3,14 +3,15 @@ use mathlib.Core.Path.{_≡_, refl, ap, _∙_}
 use mathlib.Core.Bool.{true, false}
 use mathlib.Core.List.{List, [], _∷_, _++_}
 use Prim.Native.Nat.{ℕ, _≤_, _<_}
+use Prim.Native.String.{String}
 use native.Mathlib.Omega.{arith}
 use lib.Dec.{lit≤, lit<}
 use lib.IntN.{pos, negℤ}
 use lib.ListN.{length, drop}
-use Rattle.paper.specs.Answers.{Answer}
+use Rattle.paper.specs.Answers.{Answer, in-text, in-house, in-farm}
 use Rattle.paper.specs.Bytes.{nameByte, wordByte}
 use Rattle.paper.specs.Layings.{terminator, laying, laidIn}
-use Rattle.paper.specs.Refusals.{bad-base, too-deep, allowance-spent, bad-expression}
+use Rattle.paper.specs.Refusals.{bad-base, too-deep, allowance-spent, bad-table, bad-expression, not-an-integer}
 use Rattle.paper.specs.Texts.{bytes}
 use Rattle.paper.specs.Traces as Traces
 use Rattle.forms.specs.Digits.{digits, enough}
@@ -19,9 +20,11 @@ use Rattle.forms.specs.Calls.{hex, decimal, known, ranged, described}
 use Rattle.forms.specs.declared.forms.Width.the-variants.{Byte, ThreeBytes, Word}
 use Rattle.numbers.specs.Conversions.{answerOf, convertedBy, convertedAnswer}
 use Rattle.numbers.specs.declared.Converted.{Converted}
-use Rattle.reader.specs.Reading.{digit, judged, inBase, numbered, reading, readNumber, readPlace, readValue}
-use Rattle.records.specs.Records.{headed, sized, fitting, nameAt, valueAt, small, sameName, entryAt}
-use Rattle.variables.specs.Tables.{entries, sought, sound, scanned, checked}
+use Rattle.reader.specs.Reading.{digit, judged as judgedReading, inBase, numbered, reading, readNumber, readPlace, readValue}
+use Rattle.records.specs.Records.{string-kind, integer-kind, headed, sized, fitting, nameAt, valueAt, small, sameName, entryAt}
+use Rattle.variables.specs.Tables.{entries, sought, sound, scanned}
+use Rattle.variables.specs.Judgements.{judged}
+use Rattle.variables.specs.Lookups.{lookedUp, valuePart, foundNumber, foundCounted, foundPlace, foundKind}
 use Rattle.variables.specs.Names.{meant}
 use Rattle.symbols.specs.Symbols.{symbolAt, active, barred, code, coded, punctuation, toppedCode, toppedSymbol, referred, closed, quotedOther, firstAt, modeOf}
 use Rattle.gs.specs.Readings.{nameGives, contentGives, symbolGives, symbolsFrom, wholeText, expands}
@@ -29,11 +32,14 @@ use Rattle.gs.specs.Translations.{readingOf, leftBy, translated, outAfter, tran
 use Rattle.tokens.specs.Tokens.{wordToken, faultOf, single, fromLess, fromGreater, symbolAt as signAt, startingAt}
 use Rattle.expressions.specs.Trees.{operatorsFrom, operandAt, wholeTree}
 use Rattle.expressions.specs.Evaluations.{divided}
+use Rattle.gs.specs.declared.Translated.{Translated}
+use Rattle.expressions.specs.declared.Evaluated.{Evaluated}
+use Rattle.variables.specs.declared.both.Found.{Found}
 use Rattle.expressions.specs.Answers.{evaluated, evaluatedNumber, evaluatedCounted, evaluatedPlace, evaluatedValue}
 use Rattle.arithmetic.specs.Values.{signed, sum, difference, product, quotient, remainder}
-use Rattle.promises.specs.Allowed.{Converts}
+use Rattle.promises.specs.Allowed.{Converts, LooksUp, HandsBack, Translates, Evaluates}
 use Rattle.promises.specs.Conversions.{needed}
-use Rattle.promises.specs.Examples.{writes, lacks, reads, refuses, translates, stops, evaluates, fails, selfNaming, Holds, All, examples}
+use Rattle.promises.specs.Examples.{writes, lacks, reads, refuses, translates, stops, evaluates, fails, finds, selfNaming, named-x, numbered-7, naming-a, Holds, All, examples}
 use Rattle.promises.proofs.ConversionsKept as Conversions
 
 -- a row of a call that has a form: its answer is the definition's at the room, and the promises say what it leaves
@@ -83,81 +89,137 @@ unfolding answerOf described ranged laying string digits enough
 p7 buf after r long c = writes-row 0xD3 1048576 7 (hex ThreeBytes) refl buf after r _ long c (lit≤ tt) refl
 
 p8 : Holds (reads "2_1102" 6 5)
-unfolding reading numbered inBase judged digit
+unfolding reading numbered inBase judgedReading digit
 p8 r c = (ap readNumber (c .answer), ap readValue (c .answer), ap readPlace (c .answer))
 
 p9 : Holds (refuses "37_1" bad-base 0)
-unfolding reading numbered inBase judged digit
+unfolding reading numbered inBase judgedReading digit
 p9 r c = (ap readNumber (c .answer), ap readPlace (c .answer))
 
-p10 : Holds (translates "|!|@" [] 0 1 (128 ∷ []) 4 0)
-unfolding translated outAfter scanned sound headed sized fitting nameAt valueAt nameByte small sameName entryAt entries sought meant nameGives contentGives symbolGives symbolsFrom wholeText expands symbolAt active barred code coded punctuation toppedCode toppedSymbol referred closed quotedOther firstAt modeOf reading numbered inBase judged digit string digits enough
-p10 out after r long c = (
-  ap translatedAnswer (c .answer ∙ ap (translated (bytes "|!|@") [] 0 0) long),
-  c .buffer ∙ ap (λ n. leftBy (translated (bytes "|!|@") [] 0 0 n) (Traces.bytes (readingOf (bytes "|!|@") [] 0)) out) long,
+-- a row of a text over two tables: its answer and what it leaves are the definition's at the room
+translated-row :
+    (text : String) (farm house : List ℕ) (allowance : ℕ) {room : ℕ} (out after : List ℕ) (r : Translated) → length out ≡ room
+    → Translates (bytes text) farm house 0 allowance out r after
+    → (translatedAnswer r ≡ translatedAnswer (translated (bytes text) farm house 0 allowance room))
+    × (after ≡ leftBy (translated (bytes text) farm house 0 allowance room) (Traces.bytes (readingOf (bytes text) farm house 0)) out)
+unfolding outAfter
+translated-row text farm house allowance out after r long c = (
+  ap translatedAnswer (c .answer ∙ ap (translated (bytes text) farm house 0 allowance) long),
+  c .buffer ∙ ap (λ n. leftBy (translated (bytes text) farm house 0 allowance n) (Traces.bytes (readingOf (bytes text) farm house 0)) out) long,
 )
 
-p11 : Holds (translates "\"a\"\"b\"" [] 0 3 (bytes "a\"b") 6 0)
-unfolding translated outAfter scanned sound headed sized fitting nameAt valueAt nameByte small sameName entryAt entries sought meant nameGives contentGives symbolGives symbolsFrom wholeText expands symbolAt active barred code coded punctuation toppedCode toppedSymbol referred closed quotedOther firstAt modeOf reading numbered inBase judged digit string digits enough
-p11 out after r long c = (
-  ap translatedAnswer (c .answer ∙ ap (translated (bytes "\"a\"\"b\"") [] 0 0) long),
-  c .buffer ∙ ap (λ n. leftBy (translated (bytes "\"a\"\"b\"") [] 0 0 n) (Traces.bytes (readingOf (bytes "\"a\"\"b\"") [] 0)) out) long,
+evaluated-row :
+    (text : String) (farm house : List ℕ) (allowance : ℕ) (r : Evaluated) → Evaluates (bytes text) farm house allowance r
+    → let e = evaluated (bytes text) farm house allowance in
+    (evaluatedNumber r ≡ evaluatedNumber e) × (evaluatedCounted r ≡ evaluatedCounted e) × (evaluatedPlace r ≡ evaluatedPlace e)
+    × (evaluatedValue r ≡ evaluatedValue e)
+evaluated-row text farm house allowance r c =
+    (ap evaluatedNumber (c .answer), ap evaluatedCounted (c .answer), ap evaluatedPlace (c .answer), ap evaluatedValue (c .answer))
+
+p10 : Holds (translates "|!|@" [] [] 0 1 (128 ∷ []) 4 0)
+unfolding translated outAfter judged scanned sound headed sized fitting nameAt valueAt nameByte small sameName entryAt entries sought meant nameGives contentGives symbolGives symbolsFrom wholeText expands symbolAt active barred code coded punctuation toppedCode toppedSymbol referred closed quotedOther firstAt modeOf reading numbered inBase judgedReading digit string digits enough
+p10 out after r long c = translated-row "|!|@" [] [] 0 out after r long c
+
+p11 : Holds (translates "\"a\"\"b\"" [] [] 0 3 (bytes "a\"b") 6 0)
+unfolding translated outAfter judged scanned sound headed sized fitting nameAt valueAt nameByte small sameName entryAt entries sought meant nameGives contentGives symbolGives symbolsFrom wholeText expands symbolAt active barred code coded punctuation toppedCode toppedSymbol referred closed quotedOther firstAt modeOf reading numbered inBase judgedReading digit string digits enough
+p11 out after r long c = translated-row "\"a\"\"b\"" [] [] 0 out after r long c
+
+p12 : Holds (translates "<321>" [] [] 0 1 (bytes "A") 5 0)
+unfolding translated outAfter judged scanned sound headed sized fitting nameAt valueAt nameByte small sameName entryAt entries sought meant nameGives contentGives symbolGives symbolsFrom wholeText expands symbolAt active barred code coded punctuation toppedCode toppedSymbol referred closed quotedOther firstAt modeOf reading numbered inBase judgedReading digit string digits enough
+p12 out after r long c = translated-row "<321>" [] [] 0 out after r long c
+
+p13 : Holds (translates "<A>b" [] named-x 1 2 (bytes "xb") 4 0)
+unfolding translated outAfter judged scanned sound headed sized fitting nameAt valueAt nameByte small sameName entryAt entries sought meant nameGives contentGives symbolGives symbolsFrom wholeText expands symbolAt active barred code coded punctuation toppedCode toppedSymbol referred closed quotedOther firstAt modeOf reading numbered inBase judgedReading digit string digits enough
+p13 out after r long c = translated-row "<A>b" [] named-x 1 out after r long c
+
+p13-farm : Holds (translates "<A>b" named-x [] 1 2 (bytes "xb") 4 0)
+unfolding translated outAfter judged scanned sound headed sized fitting nameAt valueAt nameByte small sameName entryAt entries sought meant nameGives contentGives symbolGives symbolsFrom wholeText expands symbolAt active barred code coded punctuation toppedCode toppedSymbol referred closed quotedOther firstAt modeOf reading numbered inBase judgedReading digit string digits enough
+p13-farm out after r long c = translated-row "<A>b" named-x [] 1 out after r long c
+
+p14 : Holds (evaluates "2147483647+1" [] [] 0 (negℤ (pos 2147483648)) 12)
+unfolding evaluated judged scanned sound headed sized fitting nameAt valueAt nameByte small sameName entryAt entries sought meant startingAt wordToken wordByte signAt single fromLess fromGreater faultOf operatorsFrom operandAt wholeTree divided signed sum difference product quotient remainder reading numbered inBase judgedReading digit
+p14 r c = let e = evaluated-row "2147483647+1" [] [] 0 r c in (e .0, e .3, e .2)
+
+p15 : Holds (evaluates "-7 MOD 2" [] [] 0 (negℤ (pos 1)) 8)
+unfolding evaluated judged scanned sound headed sized fitting nameAt valueAt nameByte small sameName entryAt entries sought meant startingAt wordToken wordByte signAt single fromLess fromGreater faultOf operatorsFrom operandAt wholeTree divided signed sum difference product quotient remainder reading numbered inBase judgedReading digit
+p15 r c = let e = evaluated-row "-7 MOD 2" [] [] 0 r c in (e .0, e .3, e .2)
+
+empty-text : Holds (translates "" [] [] 0 0 [] 0 0)
+unfolding translated outAfter judged scanned sound headed sized fitting nameAt valueAt nameByte small sameName entryAt entries sought meant nameGives contentGives symbolGives symbolsFrom wholeText expands symbolAt active barred code coded punctuation toppedCode toppedSymbol referred closed quotedOther firstAt modeOf reading numbered inBase judgedReading digit string digits enough
+empty-text out after r long c = translated-row "" [] [] 0 out after r long c
+
+string-hides : Holds (translates "<a>" named-x numbered-7 1 1 (bytes "x") 3 0)
+unfolding translated outAfter judged scanned sound headed sized fitting nameAt valueAt nameByte small sameName entryAt entries sought meant nameGives contentGives symbolGives symbolsFrom wholeText expands symbolAt active barred code coded punctuation toppedCode toppedSymbol referred closed quotedOther firstAt modeOf reading numbered inBase judgedReading digit string digits enough
+string-hides out after r long c = translated-row "<a>" named-x numbered-7 1 out after r long c
+
+integer-hides : Holds (translates "<a>" numbered-7 named-x 1 1 (bytes "7") 3 0)
+unfolding translated outAfter judged scanned sound headed sized fitting nameAt valueAt nameByte small sameName entryAt entries sought meant nameGives contentGives symbolGives symbolsFrom wholeText expands symbolAt active barred code coded punctuation toppedCode toppedSymbol referred closed quotedOther firstAt modeOf reading numbered inBase judgedReading digit string digits enough
+integer-hides out after r long c = translated-row "<a>" numbered-7 named-x 1 out after r long c
+
+integer-counts : Holds (evaluates "a+1" numbered-7 named-x 1 (pos 8) 3)
+unfolding evaluated judged scanned sound headed sized fitting nameAt valueAt nameByte small sameName entryAt entries sought meant startingAt wordToken wordByte signAt single fromLess fromGreater faultOf operatorsFrom operandAt wholeTree divided signed sum difference product quotient remainder reading numbered inBase judgedReading digit
+integer-counts r c = let e = evaluated-row "a+1" numbered-7 named-x 1 r c in (e .0, e .3, e .2)
+
+string-counts-not : Holds (fails "a+1" named-x numbered-7 1 not-an-integer in-text 0)
+unfolding evaluated judged scanned sound headed sized fitting nameAt valueAt nameByte small sameName entryAt entries sought meant startingAt wordToken wordByte signAt single fromLess fromGreater faultOf operatorsFrom operandAt wholeTree divided signed sum difference product quotient remainder reading numbered inBase judgedReading digit
+string-counts-not r c = let e = evaluated-row "a+1" named-x numbered-7 1 r c in (e .0, e .1, e .2)
+
+found-in-the-farm : Holds (finds "A" named-x numbered-7 in-farm 0 string-kind (bytes "x"))
+unfolding lookedUp judged scanned sound headed sized fitting nameAt valueAt nameByte small sameName entryAt entries sought
+found-in-the-farm r handed c p = (
+  ap foundNumber (c .answer),
+  ap foundCounted (c .answer),
+  ap foundPlace (c .answer),
+  ap foundKind (c .answer),
+  p .answer,
 )
 
-p12 : Holds (translates "<321>" [] 0 1 (bytes "A") 5 0)
-unfolding translated outAfter scanned sound headed sized fitting nameAt valueAt nameByte small sameName entryAt entries sought meant nameGives contentGives symbolGives symbolsFrom wholeText expands symbolAt active barred code coded punctuation toppedCode toppedSymbol referred closed quotedOther firstAt modeOf reading numbered inBase judged digit string digits enough
-p12 out after r long c = (
-  ap translatedAnswer (c .answer ∙ ap (translated (bytes "<321>") [] 0 0) long),
-  c .buffer ∙ ap (λ n. leftBy (translated (bytes "<321>") [] 0 0 n) (Traces.bytes (readingOf (bytes "<321>") [] 0)) out) long,
+found-in-the-house : Holds (finds "A" [] numbered-7 in-house 0 integer-kind (7 ∷ 0 ∷ 0 ∷ 0 ∷ []))
+unfolding lookedUp judged scanned sound headed sized fitting nameAt valueAt nameByte small sameName entryAt entries sought
+found-in-the-house r handed c p = (
+  ap foundNumber (c .answer),
+  ap foundCounted (c .answer),
+  ap foundPlace (c .answer),
+  ap foundKind (c .answer),
+  p .answer,
 )
 
-p13 : Holds (translates "<A>b" (86 ∷ 82 ∷ 0 ∷ 1 ∷ 1 ∷ 97 ∷ 120 ∷ []) 1 2 (bytes "xb") 4 0)
-unfolding translated outAfter scanned sound headed sized fitting nameAt valueAt nameByte small sameName entryAt entries sought meant nameGives contentGives symbolGives symbolsFrom wholeText expands symbolAt active barred code coded punctuation toppedCode toppedSymbol referred closed quotedOther firstAt modeOf reading numbered inBase judged digit string digits enough
-p13 out after r long c = (
-  ap translatedAnswer (c .answer ∙ ap (translated (bytes "<A>b") (86 ∷ 82 ∷ 0 ∷ 1 ∷ 1 ∷ 97 ∷ 120 ∷ []) 0 1) long),
-  c .buffer ∙ ap (λ n. leftBy (translated (bytes "<A>b") (86 ∷ 82 ∷ 0 ∷ 1 ∷ 1 ∷ 97 ∷ 120 ∷ []) 0 1 n) (Traces.bytes (readingOf (bytes "<A>b") (86 ∷ 82 ∷ 0 ∷ 1 ∷ 1 ∷ 97 ∷ 120 ∷ []) 0)) out) long,
-)
+macro-of-the-house : Holds (translates "<m>" named-x naming-a 2 2 (bytes "x!") 3 0)
+unfolding translated outAfter judged scanned sound headed sized fitting nameAt valueAt nameByte small sameName entryAt entries sought meant nameGives contentGives symbolGives symbolsFrom wholeText expands symbolAt active barred code coded punctuation toppedCode toppedSymbol referred closed quotedOther firstAt modeOf reading numbered inBase judgedReading digit string digits enough
+macro-of-the-house out after r long c = translated-row "<m>" named-x naming-a 2 out after r long c
 
-p14 : Holds (evaluates "2147483647+1" [] 0 (negℤ (pos 2147483648)) 12)
-unfolding evaluated checked scanned startingAt wordToken wordByte signAt single fromLess fromGreater faultOf operatorsFrom operandAt wholeTree divided signed sum difference product quotient remainder reading numbered inBase judged digit
-p14 r c = (ap evaluatedNumber (c .answer), ap evaluatedValue (c .answer), ap evaluatedPlace (c .answer))
+macro-of-the-farm : Holds (translates "<m>" naming-a named-x 2 2 (bytes "x!") 3 0)
+unfolding translated outAfter judged scanned sound headed sized fitting nameAt valueAt nameByte small sameName entryAt entries sought meant nameGives contentGives symbolGives symbolsFrom wholeText expands symbolAt active barred code coded punctuation toppedCode toppedSymbol referred closed quotedOther firstAt modeOf reading numbered inBase judgedReading digit string digits enough
+macro-of-the-farm out after r long c = translated-row "<m>" naming-a named-x 2 out after r long c
 
-p15 : Holds (evaluates "-7 MOD 2" [] 0 (negℤ (pos 1)) 8)
-unfolding evaluated checked scanned startingAt wordToken wordByte signAt single fromLess fromGreater faultOf operatorsFrom operandAt wholeTree divided signed sum difference product quotient remainder reading numbered inBase judged digit
-p15 r c = (ap evaluatedNumber (c .answer), ap evaluatedValue (c .answer), ap evaluatedPlace (c .answer))
+macro-spends-two : Holds (stops "<m>" naming-a named-x 1 2 allowance-spent in-text 0)
+unfolding translated outAfter judged scanned sound headed sized fitting nameAt valueAt nameByte small sameName entryAt entries sought meant nameGives contentGives symbolGives symbolsFrom wholeText expands symbolAt active barred code coded punctuation toppedCode toppedSymbol referred closed quotedOther firstAt modeOf reading numbered inBase judgedReading digit string digits enough
+macro-spends-two out after r long c = translated-row "<m>" naming-a named-x 1 out after r long c
 
-empty-text : Holds (translates "" [] 0 0 [] 0 0)
-unfolding translated outAfter scanned sound headed sized fitting nameAt valueAt nameByte small sameName entryAt entries sought meant nameGives contentGives symbolGives symbolsFrom wholeText expands symbolAt active barred code coded punctuation toppedCode toppedSymbol referred closed quotedOther firstAt modeOf reading numbered inBase judged digit string digits enough
-empty-text out after r long c = (
-  ap translatedAnswer (c .answer ∙ ap (translated [] [] 0 0) long),
-  c .buffer ∙ ap (λ n. leftBy (translated [] [] 0 0 n) (Traces.bytes (readingOf [] [] 0)) out) long,
-)
+farm-told-first : Holds (stops "x" (bytes "V") (bytes "V") 0 1 bad-table in-farm 0)
+unfolding translated outAfter judged scanned sound headed sized fitting nameAt valueAt nameByte small sameName entryAt entries sought meant nameGives contentGives symbolGives symbolsFrom wholeText expands symbolAt active barred code coded punctuation toppedCode toppedSymbol referred closed quotedOther firstAt modeOf reading numbered inBase judgedReading digit string digits enough
+farm-told-first out after r long c = translated-row "x" (bytes "V") (bytes "V") 0 out after r long c
 
-names-itself-thrice : Holds (stops "<a>" selfNaming 3 1 allowance-spent 0)
-unfolding translated outAfter scanned sound headed sized fitting nameAt valueAt nameByte small sameName entryAt entries sought meant nameGives contentGives symbolGives symbolsFrom wholeText expands symbolAt active barred code coded punctuation toppedCode toppedSymbol referred closed quotedOther firstAt modeOf reading numbered inBase judged digit string digits enough
-names-itself-thrice out after r long c = (
-  ap translatedAnswer (c .answer ∙ ap (translated (bytes "<a>") selfNaming 0 3) long),
-  c .buffer ∙ ap (λ n. leftBy (translated (bytes "<a>") selfNaming 0 3 n) (Traces.bytes (readingOf (bytes "<a>") selfNaming 0)) out) long,
-)
+house-told : Holds (stops "x" named-x (named-x ++ bytes "V") 0 1 bad-table in-house 7)
+unfolding translated outAfter judged scanned sound headed sized fitting nameAt valueAt nameByte small sameName entryAt entries sought meant nameGives contentGives symbolGives symbolsFrom wholeText expands symbolAt active barred code coded punctuation toppedCode toppedSymbol referred closed quotedOther firstAt modeOf reading numbered inBase judgedReading digit string digits enough
+house-told out after r long c = translated-row "x" named-x (named-x ++ bytes "V") 0 out after r long c
 
-names-itself : Holds (stops "<a>" selfNaming 1024 1 too-deep 0)
-unfolding translated outAfter scanned sound headed sized fitting nameAt valueAt nameByte small sameName entryAt entries sought meant nameGives contentGives symbolGives symbolsFrom wholeText expands symbolAt active barred code coded punctuation toppedCode toppedSymbol referred closed quotedOther firstAt modeOf reading numbered inBase judged digit string digits enough
-names-itself out after r long c = (
-  ap translatedAnswer (c .answer ∙ ap (translated (bytes "<a>") selfNaming 0 1024) long),
-  c .buffer ∙ ap (λ n. leftBy (translated (bytes "<a>") selfNaming 0 1024 n) (Traces.bytes (readingOf (bytes "<a>") selfNaming 0)) out) long,
-)
+names-itself-thrice : Holds (stops "<a>" [] selfNaming 3 1 allowance-spent in-text 0)
+unfolding translated outAfter judged scanned sound headed sized fitting nameAt valueAt nameByte small sameName entryAt entries sought meant nameGives contentGives symbolGives symbolsFrom wholeText expands symbolAt active barred code coded punctuation toppedCode toppedSymbol referred closed quotedOther firstAt modeOf reading numbered inBase judgedReading digit string digits enough
+names-itself-thrice out after r long c = translated-row "<a>" [] selfNaming 3 out after r long c
 
-names-itself-behind : Holds (stops "xy<a>" selfNaming 3 9 allowance-spent 2)
-unfolding translated outAfter scanned sound headed sized fitting nameAt valueAt nameByte small sameName entryAt entries sought meant nameGives contentGives symbolGives symbolsFrom wholeText expands symbolAt active barred code coded punctuation toppedCode toppedSymbol referred closed quotedOther firstAt modeOf reading numbered inBase judged digit string digits enough
-names-itself-behind out after r long c = (
-  ap translatedAnswer (c .answer ∙ ap (translated (bytes "xy<a>") selfNaming 0 3) long),
-  c .buffer ∙ ap (λ n. leftBy (translated (bytes "xy<a>") selfNaming 0 3 n) (Traces.bytes (readingOf (bytes "xy<a>") selfNaming 0)) out) long,
-)
+names-itself : Holds (stops "<a>" [] selfNaming 1024 1 too-deep in-text 0)
+unfolding translated outAfter judged scanned sound headed sized fitting nameAt valueAt nameByte small sameName entryAt entries sought meant nameGives contentGives symbolGives symbolsFrom wholeText expands symbolAt active barred code coded punctuation toppedCode toppedSymbol referred closed quotedOther firstAt modeOf reading numbered inBase judgedReading digit string digits enough
+names-itself out after r long c = translated-row "<a>" [] selfNaming 1024 out after r long c
 
-zero-divisor-unread : Holds (fails "1/0+(" [] 0 bad-expression 5)
-unfolding evaluated checked scanned startingAt wordToken wordByte signAt single fromLess fromGreater faultOf operatorsFrom operandAt wholeTree divided signed sum difference product quotient remainder reading numbered inBase judged digit
-zero-divisor-unread r c = (ap evaluatedNumber (c .answer), ap evaluatedCounted (c .answer), ap evaluatedPlace (c .answer))
+names-itself-behind : Holds (stops "xy<a>" [] selfNaming 3 9 allowance-spent in-text 2)
+unfolding translated outAfter judged scanned sound headed sized fitting nameAt valueAt nameByte small sameName entryAt entries sought meant nameGives contentGives symbolGives symbolsFrom wholeText expands symbolAt active barred code coded punctuation toppedCode toppedSymbol referred closed quotedOther firstAt modeOf reading numbered inBase judgedReading digit string digits enough
+names-itself-behind out after r long c = translated-row "xy<a>" [] selfNaming 3 out after r long c
+
+zero-divisor-unread : Holds (fails "1/0+(" [] [] 0 bad-expression in-text 5)
+unfolding evaluated judged scanned sound headed sized fitting nameAt valueAt nameByte small sameName entryAt entries sought meant startingAt wordToken wordByte signAt single fromLess fromGreater faultOf operatorsFrom operandAt wholeTree divided signed sum difference product quotient remainder reading numbered inBase judgedReading digit
+zero-divisor-unread r c = let e = evaluated-row "1/0+(" [] [] 0 r c in (e .0, e .1, e .2)
 
 -- the table, whole
 pub worked-examples : All examples
-worked-examples = (p1, (p2, (p3, (p4, (p5, (p6, (p7, (p8, (p9, (p10, (p11, (p12, (p13, (p14, (p15, (empty-text, (names-itself-thrice, (names-itself, (names-itself-behind, (zero-divisor-unread, tt))))))))))))))))))))
+worked-examples = (p1, (p2, (p3, (p4, (p5, (p6, (p7, (p8, (p9, (p10, (p11, (p12, (p13, (p13-farm, (p14, (p15, (empty-text, (string-hides, (integer-hides, (integer-counts, (string-counts-not, (found-in-the-farm, (found-in-the-house, (macro-of-the-house, (macro-of-the-farm, (macro-spends-two, (farm-told-first, (house-told, (names-itself-thrice, (names-itself, (names-itself-behind, (zero-divisor-unread, tt))))))))))))))))))))))))))))))))

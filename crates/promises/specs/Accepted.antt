@@ -6,8 +6,8 @@ use Rattle.reader.specs.declared.Reading.{Reading}
 use Rattle.reader.specs.declared.Reading.the-variants as Read
 use Rattle.variables.specs.declared.Checked.{Checked}
 use Rattle.variables.specs.declared.Checked.the-variants as Check
-use Rattle.variables.specs.declared.Found.{Found}
-use Rattle.variables.specs.declared.Found.the-variants as LookUp
+use Rattle.variables.specs.declared.both.Found.{Found}
+use Rattle.variables.specs.declared.both.Found.the-variants as LookUp
 use Rattle.gs.specs.declared.Translated.{Translated}
 use Rattle.gs.specs.declared.Translated.the-variants as Translation
 use Rattle.expressions.specs.declared.Evaluated.{Evaluated}
@@ -28,14 +28,14 @@ isGood (Check.BadTable number at) = false
 abbrev pub isKnown : Found → Bool
 isKnown (LookUp.At v) = true
 isKnown LookUp.Unknown = false
-isKnown (LookUp.BadTable number at) = false
+isKnown (LookUp.BadTable number holder at) = false
 
 abbrev pub isTranslated : Translated → Bool
 isTranslated (Translation.Written end need free) = true
 isTranslated (Translation.Refused number at need free) = false
-isTranslated (Translation.BadTable number at free) = false
+isTranslated (Translation.BadTable number holder at free) = false
 
 abbrev pub isEvaluated : Evaluated → Bool
 isEvaluated (Evaluation.Value pattern end) = true
 isEvaluated (Evaluation.Refused number at) = false
-isEvaluated (Evaluation.BadTable number at) = false
+isEvaluated (Evaluation.BadTable number holder at) = false

@@ -8,9 +8,10 @@ use Rattle.numbers.specs.Conversions.{answerOf, bufferOf, convertedBy}
 use Rattle.numbers.specs.declared.Converted.{Converted}
 use Rattle.reader.specs.Reading.{reading}
 use Rattle.reader.specs.declared.Reading.{Reading}
-use Rattle.variables.specs.Tables.{checked, lookedUp}
+use Rattle.variables.specs.Tables.{checked}
+use Rattle.variables.specs.Lookups.{lookedUp, valuePart}
 use Rattle.variables.specs.declared.Checked.{Checked}
-use Rattle.variables.specs.declared.Found.{Found}
+use Rattle.variables.specs.declared.both.Found.{Found}
 use Rattle.gs.specs.Translations.{translated, outAfter}
 use Rattle.gs.specs.declared.Translated.{Translated}
 use Rattle.expressions.specs.Answers.{evaluated}
@@ -30,14 +31,18 @@ pub record Checks (table : List ℕ) (r : Checked) : Type 0 where
   pub answer : r ≡ checked table
 
 -- `look_up`
-pub record LooksUp (table name : List ℕ) (r : Found) : Type 0 where
-  pub answer : r ≡ lookedUp table name
+pub record LooksUp (farm house name : List ℕ) (r : Found) : Type 0 where
+  pub answer : r ≡ lookedUp farm house name
+
+-- `look_up_value`
+pub record HandsBack (farm house name part : List ℕ) : Type 0 where
+  pub answer : part ≡ valuePart farm house (lookedUp farm house name)
 
 -- `translate`
-pub record Translates (text table : List ℕ) (flags allowance : ℕ) (out : List ℕ) (r : Translated) (after : List ℕ) : Type 0 where
-  pub answer : r ≡ translated text table flags allowance (length out)
-  pub buffer : after ≡ outAfter text table flags allowance out
+pub record Translates (text farm house : List ℕ) (flags allowance : ℕ) (out : List ℕ) (r : Translated) (after : List ℕ) : Type 0 where
+  pub answer : r ≡ translated text farm house flags allowance (length out)
+  pub buffer : after ≡ outAfter text farm house flags allowance out
 
 -- `evaluate`
-pub record Evaluates (text table : List ℕ) (allowance : ℕ) (r : Evaluated) : Type 0 where
-  pub answer : r ≡ evaluated text table allowance
+pub record Evaluates (text farm house : List ℕ) (allowance : ℕ) (r : Evaluated) : Type 0 where
+  pub answer : r ≡ evaluated text farm house allowance

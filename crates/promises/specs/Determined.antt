@@ -32,8 +32,8 @@ use Rattle.records.proofs.names.key_of.Reads as key-of
 use Rattle.records.proofs.names.same_name.Reads as same-name
 use Rattle.records.proofs.kinds.Kind.number.Reads as kind-number
 use Rattle.records.proofs.integers.pattern_of.Reads as pattern-of
-use Rattle.variables.proofs.key_table.Reads as key-table
-use Rattle.variables.proofs.value_of.Reads as value-of
+use Rattle.variables.proofs.both.key_tables.Reads as key-tables
+use Rattle.variables.proofs.both.value_of.Reads as value-of
 use Rattle.variables.proofs.keys.find.Reads as find
 use Rattle.symbols.proofs.flags.Flags.of.Reads as flags-of
 use Rattle.symbols.proofs.flags.Flags.none.Reads as flags-none
@@ -120,16 +120,16 @@ pub record Determined : Type 0 where
   pub part : One part.Learnt (lent rest) (λ r after. now r)
   pub name-at : One name-at.Learnt (lent rest) (λ r after. now r)
   pub next-place : One next-place.Learnt (lent rest) answer-alone
-  pub variable-at : One variable-at.Learnt (lent rest) answer-alone
+  pub variable-at : One variable-at.Learnt (plain (lent rest)) answer-alone
   pub is-shaped : One is-shaped.Learnt (lent rest) answer-alone
   pub key-of : One key-of.Learnt (lent rest) answer-alone
   pub same-name : One same-name.Learnt (lent (lent rest)) answer-alone
   pub kind-number : One kind-number.Learnt rest answer-alone
   pub pattern-of : One pattern-of.Learnt (lent rest) answer-alone
-  -- variables: the answer of `value_of` is a part of the table too
-  pub key-table : One key-table.Learnt (lent rest) answer-alone
-  pub value-of : One value-of.Learnt (lent rest) (λ r after. now r)
-  pub find : One find.Learnt (lent (lent (lent rest))) answer-alone
+  -- variables: the answer of `value_of` is a part of a table too
+  pub key-tables : One key-tables.Learnt (lent (lent rest)) answer-alone
+  pub value-of : One value-of.Learnt (lent (lent rest)) (λ r after. now r)
+  pub find : One find.Learnt (lent (lent (lent (lent rest)))) answer-alone
   -- symbols
   pub symbol-at : One symbol-at.Learnt (lent rest) answer-alone
   pub open-text : One open-text.Learnt (lent rest) answer-alone
@@ -142,7 +142,7 @@ pub record Determined : Type 0 where
   pub put : One put.Learnt (plain (plain (lent rest))) (answer-and (λ (byte, (to, (out, _))). out))
   pub copy : One copy.Learnt (lent (plain (lent rest))) (answer-and (λ (given, (to, (out, _))). out))
   -- references
-  pub resolve : One resolve.Learnt (lent (lent (lent rest))) answer-alone
+  pub resolve : One resolve.Learnt (lent (lent (lent (lent rest)))) answer-alone
   -- arithmetic
   pub level : One level.Learnt rest answer-alone
   pub stands-alone : One stands-alone.Learnt rest answer-alone
@@ -162,14 +162,15 @@ pub record Determined : Type 0 where
   pub joined-part : One joined-part.Learnt rest answer-alone
   -- leaves
   pub leaf-number : One leaf-number.Learnt rest answer-alone
-  pub leaf-named : One leaf-named.Learnt (lent (lent (lent rest))) answer-alone
+  pub leaf-named : One leaf-named.Learnt (lent (lent (lent (lent rest)))) answer-alone
   -- filter
   pub answer : One answer.Learnt (lent (lent rest)) (answer-and (λ (text, (out, _)). out))
   -- nosgoludd
   pub nos-convert : One nos-convert.Learnt (plain (plain (lent rest))) (answer-and (λ (call, (value, (buf, _))). buf))
   pub nos-read-unsigned : One nos-read-unsigned.Learnt (lent rest) answer-alone
   pub nos-check-table : One nos-check-table.Learnt (lent rest) answer-alone
-  pub nos-look-up : One nos-look-up.Learnt (lent (lent rest)) answer-alone
+  pub nos-look-up : One nos-look-up.Learnt (lent (lent (lent rest))) answer-alone
   pub nos-translate :
-      One nos-translate.Learnt (lent (lent (plain (plain (lent rest))))) (answer-and (λ (text, (table, (flags, (allowance, (out, _))))). out))
-  pub nos-evaluate : One nos-evaluate.Learnt (lent (lent rest)) answer-alone
+      One nos-translate.Learnt (lent (lent (lent (plain (plain (lent rest))))))
+      (answer-and (λ (text, (farm, (house, (flags, (allowance, (out, _)))))). out))
+  pub nos-evaluate : One nos-evaluate.Learnt (lent (lent (lent rest))) answer-alone

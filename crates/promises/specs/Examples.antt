@@ -6,17 +6,20 @@ use Prim.Native.Nat.{ℕ}
 use Prim.Native.String.{String}
 use lib.IntN.{ℤ, pos, negℤ}
 use lib.ListN.{length, drop}
-use Rattle.paper.specs.Answers.{in-text, refusal}
-use Rattle.paper.specs.Refusals.{no-room, bad-base, too-deep, allowance-spent, bad-expression}
+use Rattle.paper.specs.Answers.{in-text, in-house, in-farm, refusal}
+use Rattle.paper.specs.Refusals.{no-room, bad-base, too-deep, allowance-spent, bad-table, bad-expression, not-an-integer}
 use Rattle.numbers.specs.Conversions.{convertedAnswer}
 use Rattle.numbers.specs.declared.Converted.{Converted}
 use Rattle.reader.specs.Reading.{no-limit, readNumber, readPlace, readValue}
 use Rattle.reader.specs.declared.Reading.{Reading}
+use Rattle.records.specs.Records.{string-kind, integer-kind}
+use Rattle.variables.specs.Lookups.{foundNumber, foundCounted, foundPlace, foundKind}
+use Rattle.variables.specs.declared.both.Found.{Found}
 use Rattle.gs.specs.Translations.{translatedAnswer}
 use Rattle.gs.specs.declared.Translated.{Translated}
 use Rattle.expressions.specs.Answers.{evaluatedNumber, evaluatedCounted, evaluatedPlace, evaluatedValue}
 use Rattle.expressions.specs.declared.Evaluated.{Evaluated}
-use Rattle.promises.specs.Allowed.{Converts, Reads, Translates, Evaluates}
+use Rattle.promises.specs.Allowed.{Converts, Reads, LooksUp, HandsBack, Translates, Evaluates}
 use Rattle.paper.specs.Texts.{bytes}
 
 pub data Row : Type 0 where
@@ -28,14 +31,17 @@ pub data Row : Type 0 where
   reads : (text : String) (value place : ℕ) → Row
   -- a text, without options: the refusal number and its place
   refuses : (text : String) (number place : ℕ) → Row
-  -- a text, a table, an allowance and a room, no flags: the bytes given, the place of the text's end, and the room left
-  translates : (text : String) (table : List ℕ) (allowance room : ℕ) (given : List ℕ) (end free : ℕ) → Row
-  -- a text, a table, an allowance and a room, no flags: the refusal number, and its place in the text
-  stops : (text : String) (table : List ℕ) (allowance room number place : ℕ) → Row
-  -- a text, a table and an allowance: the value, and the place of the text's end
-  evaluates : (text : String) (table : List ℕ) (allowance : ℕ) (value : ℤ) (end : ℕ) → Row
-  -- a text, a table and an allowance: the refusal number, and its place in the text
-  fails : (text : String) (table : List ℕ) (allowance number place : ℕ) → Row
+  -- a text, the farm's table and the house's, an allowance and a room, no flags: the bytes given, the place of the text's end, and the
+  -- room left
+  translates : (text : String) (farm house : List ℕ) (allowance room : ℕ) (given : List ℕ) (end free : ℕ) → Row
+  -- the same: the refusal number, what its place is counted in, and the place
+  stops : (text : String) (farm house : List ℕ) (allowance room number counted place : ℕ) → Row
+  -- a text, two tables and an allowance: the value, and the place of the text's end
+  evaluates : (text : String) (farm house : List ℕ) (allowance : ℕ) (value : ℤ) (end : ℕ) → Row
+  -- the same: the refusal number, what its place is counted in, and the place
+  fails : (text : String) (farm house : List ℕ) (allowance number counted place : ℕ) → Row
+  -- a name and two tables: what the record's place is counted in, the place, the kind, and the part that is handed back
+  finds : (name : String) (farm house : List ℕ) (counted place kind : ℕ) (part : List ℕ) → Row
 
 abbrev pub Holds : Row → Type 0
 Holds (writes call value room string offset need free) =
@@ -48,17 +54,21 @@ Holds (reads text value place) =
     (r : Reading) → Reads (bytes text) false no-limit r → (readNumber r ≡ 0) × (readValue r ≡ value) × (readPlace r ≡ place)
 Holds (refuses text number place) =
     (r : Reading) → Reads (bytes text) false no-limit r → (readNumber r ≡ number) × (readPlace r ≡ place)
-Holds (translates text table allowance room given end free) =
-    (out after : List ℕ) (r : Translated) → length out ≡ room → Translates (bytes text) table 0 allowance out r after
+Holds (translates text farm house allowance room given end free) =
+    (out after : List ℕ) (r : Translated) → length out ≡ room → Translates (bytes text) farm house 0 allowance out r after
     → (translatedAnswer r ≡ record { number = 0; counted = in-text; place = end; need = length given; free = free }) × (after ≡ given ++ drop (length given) out)
-Holds (stops text table allowance room number place) =
-    (out after : List ℕ) (r : Translated) → length out ≡ room → Translates (bytes text) table 0 allowance out r after
-    → (translatedAnswer r ≡ refusal number in-text place room) × (after ≡ out)
-Holds (evaluates text table allowance value end) =
-    (r : Evaluated) → Evaluates (bytes text) table allowance r
+Holds (stops text farm house allowance room number counted place) =
+    (out after : List ℕ) (r : Translated) → length out ≡ room → Translates (bytes text) farm house 0 allowance out r after
+    → (translatedAnswer r ≡ refusal number counted place room) × (after ≡ out)
+Holds (evaluates text farm house allowance value end) =
+    (r : Evaluated) → Evaluates (bytes text) farm house allowance r
     → (evaluatedNumber r ≡ 0) × (evaluatedValue r ≡ value) × (evaluatedPlace r ≡ end)
-Holds (fails text table allowance number place) =
-    (r : Evaluated) → Evaluates (bytes text) table allowance r → (evaluatedNumber r ≡ number) × (evaluatedCounted r ≡ in-text) × (evaluatedPlace r ≡ place)
+Holds (fails text farm house allowance number counted place) =
+    (r : Evaluated) → Evaluates (bytes text) farm house allowance r
+    → (evaluatedNumber r ≡ number) × (evaluatedCounted r ≡ counted) × (evaluatedPlace r ≡ place)
+Holds (finds name farm house counted place kind part) =
+    (r : Found) (handed : List ℕ) → LooksUp farm house (bytes name) r → HandsBack farm house (bytes name) handed
+    → (foundNumber r ≡ 0) × (foundCounted r ≡ counted) × (foundPlace r ≡ place) × (foundKind r ≡ kind) × (handed ≡ part)
 
 abbrev pub All : List Row → Type 0
 All [] = Unit {0}
@@ -68,7 +78,19 @@ All (row ∷ rows) = Holds row × All rows
 abbrev pub selfNaming : List ℕ
 selfNaming = 86 ∷ 82 ∷ 2 ∷ 1 ∷ 3 ∷ bytes "a<a>"
 
--- P1 to P15 and some more of the paper's table
+-- one record: the string a, whose value is `x`
+abbrev pub named-x : List ℕ
+named-x = 86 ∷ 82 ∷ 0 ∷ 1 ∷ 1 ∷ bytes "ax"
+
+-- one record: the integer a, whose value is 7
+abbrev pub numbered-7 : List ℕ
+numbered-7 = 86 ∷ 82 ∷ 1 ∷ 1 ∷ 4 ∷ bytes "a" ++ (7 ∷ 0 ∷ 0 ∷ 0 ∷ [])
+
+-- one record: the macro m, whose value is `<a>!`
+abbrev pub naming-a : List ℕ
+naming-a = 86 ∷ 82 ∷ 2 ∷ 1 ∷ 4 ∷ bytes "m<a>!"
+
+-- P1 to P15, P13 once over each table, and some more of the paper's table
 abbrev pub examples : List Row
 examples =
     -- P1
@@ -90,24 +112,39 @@ examples =
     -- P9
     ∷ refuses "37_1" bad-base 0
     -- P10
-    ∷ translates "|!|@" [] 0 1 (128 ∷ []) 4 0
+    ∷ translates "|!|@" [] [] 0 1 (128 ∷ []) 4 0
     -- P11
-    ∷ translates "\"a\"\"b\"" [] 0 3 (bytes "a\"b") 6 0
+    ∷ translates "\"a\"\"b\"" [] [] 0 3 (bytes "a\"b") 6 0
     -- P12
-    ∷ translates "<321>" [] 0 1 (bytes "A") 5 0
-    -- P13
-    ∷ translates "<A>b" (86 ∷ 82 ∷ 0 ∷ 1 ∷ 1 ∷ 97 ∷ 120 ∷ []) 1 2 (bytes "xb") 4 0
+    ∷ translates "<321>" [] [] 0 1 (bytes "A") 5 0
+    -- P13, over the house's table and over the farm's
+    ∷ translates "<A>b" [] named-x 1 2 (bytes "xb") 4 0
+    ∷ translates "<A>b" named-x [] 1 2 (bytes "xb") 4 0
     -- P14
-    ∷ evaluates "2147483647+1" [] 0 (negℤ (pos 2147483648)) 12
+    ∷ evaluates "2147483647+1" [] [] 0 (negℤ (pos 2147483648)) 12
     -- P15
-    ∷ evaluates "-7 MOD 2" [] 0 (negℤ (pos 1)) 8
+    ∷ evaluates "-7 MOD 2" [] [] 0 (negℤ (pos 1)) 8
     -- an empty text and no room
-    ∷ translates "" [] 0 0 [] 0 0
+    ∷ translates "" [] [] 0 0 [] 0 0
+    -- a farm's string hides the house's integer, and the other way round; one look-up is enough
+    ∷ translates "<a>" named-x numbered-7 1 1 (bytes "x") 3 0
+    ∷ translates "<a>" numbered-7 named-x 1 1 (bytes "7") 3 0
+    ∷ evaluates "a+1" numbered-7 named-x 1 (pos 8) 3
+    ∷ fails "a+1" named-x numbered-7 1 not-an-integer in-text 0
+    ∷ finds "A" named-x numbered-7 in-farm 0 string-kind (bytes "x")
+    ∷ finds "A" [] numbered-7 in-house 0 integer-kind (7 ∷ 0 ∷ 0 ∷ 0 ∷ [])
+    -- a house's macro uses a farm's name, and a farm's macro a house's: two look-ups
+    ∷ translates "<m>" named-x naming-a 2 2 (bytes "x!") 3 0
+    ∷ translates "<m>" naming-a named-x 2 2 (bytes "x!") 3 0
+    ∷ stops "<m>" naming-a named-x 1 2 allowance-spent in-text 0
+    -- tables that are no records: the farm's is told first
+    ∷ stops "x" (bytes "V") (bytes "V") 0 1 bad-table in-farm 0
+    ∷ stops "x" named-x (named-x ++ bytes "V") 0 1 bad-table in-house 7
     -- a macro that names itself: `<a>` for a, with 3 look-ups and with 1,024
-    ∷ stops "<a>" selfNaming 3 1 allowance-spent 0
-    ∷ stops "<a>" selfNaming 1024 1 too-deep 0
+    ∷ stops "<a>" [] selfNaming 3 1 allowance-spent in-text 0
+    ∷ stops "<a>" [] selfNaming 1024 1 too-deep in-text 0
     -- the same behind two bytes: the place is that of the outermost "<"
-    ∷ stops "xy<a>" selfNaming 3 9 allowance-spent 2
+    ∷ stops "xy<a>" [] selfNaming 3 9 allowance-spent in-text 2
     -- a zero divisor before a bracket that is missing
-    ∷ fails "1/0+(" [] 0 bad-expression 5
+    ∷ fails "1/0+(" [] [] 0 bad-expression in-text 5
     ∷ []

@@ -6,6 +6,7 @@ pub mod Ties
 pub mod Examples
 pub mod Conversions
 pub mod Readings
+pub mod TwoTables
 pub mod Lookups
 pub mod Translations
 pub mod Evaluations

@@ -1,38 +1,46 @@
--- What `check_table` and `look_up` promise, over what their contracts allow.
+-- What `check_table`, `look_up` and `look_up_value` promise, over what their contracts allow.
 use mathlib.Core.Path.{_≡_}
 use mathlib.Core.Bool.{true, false}
-use mathlib.Core.List.{List, map, flatten, List·Memᴰ}
+use mathlib.Core.List.{List, [], map, flatten, List·Memᴰ}
 use mathlib.Core.Logic.{_↔_}
 use Prim.Native.Nat.{ℕ, _+_, _≤_, _<_}
 use lib.ListN.{length, take, drop}
+use Rattle.paper.specs.Answers.{in-farm, countedIn}
+use Rattle.paper.specs.declared.Holder.{Holder}
 use Rattle.paper.specs.Refusals.{unknown-name, over-length, longest}
 use Rattle.records.specs.Records.{Entry, recordBytes, sameName}
-use Rattle.variables.specs.Tables.{most, sound, checked, checkNumber, checkCount, foundNumber, foundPlace, foundKind, foundStart, foundLength, checkNumbers, lookUpNumbers, recordsOf}
+use Rattle.variables.specs.Tables.{most, sound, checked, checkNumber, checkCount, checkNumbers, recordsOf}
+use Rattle.variables.specs.Holdings.{heldBy}
+use Rattle.variables.specs.Judgements.{badTable, judged}
+use Rattle.variables.specs.Lookups.{foundNumber, foundCounted, foundPlace, foundKind, foundStart, foundLength, lookUpNumbers}
 use Rattle.variables.specs.declared.Checked.{Checked}
-use Rattle.variables.specs.declared.Found.{Found}
+use Rattle.variables.specs.declared.both.Found.{Found}
 use Rattle.promises.specs.Accepted.{isGood, isKnown}
-use Rattle.promises.specs.Allowed.{Checks, LooksUp}
+use Rattle.promises.specs.Allowed.{Checks, LooksUp, HandsBack}
 
 -- one answer each
 abbrev pub OneCheck : Type 0
 OneCheck = (table : List ℕ) (r r′ : Checked) → Checks table r → Checks table r′ → r ≡ r′
 
 abbrev pub OneFound : Type 0
-OneFound = (table name : List ℕ) (r r′ : Found) → LooksUp table name r → LooksUp table name r′ → r ≡ r′
+OneFound = (farm house name : List ℕ) (r r′ : Found) → LooksUp farm house name r → LooksUp farm house name r′ → r ≡ r′
+
+abbrev pub OnePart : Type 0
+OnePart = (farm house name part part′ : List ℕ) → HandsBack farm house name part → HandsBack farm house name part′ → part ≡ part′
 
 -- the number is 0 exactly in the case of a good table, and of a known name
 abbrev pub CheckAccepts : Type 0
 CheckAccepts = (table : List ℕ) (r : Checked) → Checks table r → (checkNumber r ≡ 0) ↔ (isGood r ≡ true)
 
 abbrev pub LookUpAccepts : Type 0
-LookUpAccepts = (table name : List ℕ) (r : Found) → LooksUp table name r → (foundNumber r ≡ 0) ↔ (isKnown r ≡ true)
+LookUpAccepts = (farm house name : List ℕ) (r : Found) → LooksUp farm house name r → (foundNumber r ≡ 0) ↔ (isKnown r ≡ true)
 
 -- Demand 1: good, or one of the listed refusals; found, or one of them or unknown
 abbrev pub CheckRefusals : Type 0
 CheckRefusals = (table : List ℕ) (r : Checked) → Checks table r → List·Memᴰ (checkNumber r) checkNumbers
 
 abbrev pub LookUpRefusals : Type 0
-LookUpRefusals = (table name : List ℕ) (r : Found) → LooksUp table name r → List·Memᴰ (foundNumber r) lookUpNumbers
+LookUpRefusals = (farm house name : List ℕ) (r : Found) → LooksUp farm house name r → List·Memᴰ (foundNumber r) lookUpNumbers
 
 -- 18 exactly where the table is too long
 abbrev pub OverLength : Type 0
@@ -50,25 +58,53 @@ pub record Records (table : List ℕ) (r : Checked) : Type 0 where
 abbrev pub Good : Type 0
 Good = (table : List ℕ) (r : Checked) → Checks table r → checkNumber r ≡ 0 → Records table r
 
--- what was found is a record of the table with that name: its place, its kind, and the part of the table that is its value
-pub record Names (table name : List ℕ) (r : Found) : Type 0 where
+-- tables that are not good are refused as they are judged, and the answer says which, and where in it
+abbrev pub Judges : Type 0
+Judges =
+    (farm house name : List ℕ) (r : Found) (number : ℕ) (holder : Holder) (place : ℕ) → LooksUp farm house name r
+    → judged farm house ≡ badTable number holder place
+    → (foundNumber r ≡ number) × (foundCounted r ≡ countedIn holder) × (foundPlace r ≡ place)
+
+-- what was found is a record with that name of the table that the answer says: its place, its kind, and the part of that table that is its
+-- value
+pub record Names (farm house name : List ℕ) (r : Found) : Type 0 where
+  pub holder : Holder
+  pub counted : foundCounted r ≡ countedIn holder
   pub entry : Entry
-  pub member : List·Memᴰ entry (recordsOf table)
+  pub member : List·Memᴰ entry (recordsOf (heldBy holder farm house))
   pub named : sameName (entry .name) name ≡ true
   pub place : foundPlace r ≡ entry .place
   pub kind : foundKind r ≡ entry .kind
-  pub value : take (foundLength r) (drop (foundStart r) table) ≡ entry .value
+  pub value : take (foundLength r) (drop (foundStart r) (heldBy holder farm house)) ≡ entry .value
 
 abbrev pub Finds : Type 0
-Finds = (table name : List ℕ) (r : Found) → LooksUp table name r → foundNumber r ≡ 0 → Names table name r
+Finds = (farm house name : List ℕ) (r : Found) → LooksUp farm house name r → foundNumber r ≡ 0 → Names farm house name r
 
--- a name is unknown exactly where the table is good and no record has it
+-- a record of the farm's table is found before any of the house's, whatever their kinds are
+abbrev pub Hides : Type 0
+Hides =
+    (farm house name : List ℕ) (r : Found) (e : Entry) → LooksUp farm house name r → foundNumber r ≡ 0
+    → List·Memᴰ e (recordsOf farm) → sameName (e .name) name ≡ true
+    → (foundCounted r ≡ in-farm) × (foundPlace r ≡ e .place) × (foundKind r ≡ e .kind)
+
+-- a name is unknown exactly where both tables are good and no record of either has it
 abbrev pub Misses : Type 0
 Misses =
-    (table name : List ℕ) (r : Found) → LooksUp table name r
+    (farm house name : List ℕ) (r : Found) → LooksUp farm house name r
     → (foundNumber r ≡ unknown-name)
-    ↔ ((checkNumber (checked table) ≡ 0) × ((e : Entry) → List·Memᴰ e (recordsOf table) → sameName (e .name) name ≡ false))
+    ↔ ((checkNumber (checked farm) ≡ 0) × (checkNumber (checked house) ≡ 0)
+    × ((holder : Holder) (e : Entry) → List·Memᴰ e (recordsOf (heldBy holder farm house)) → sameName (e .name) name ≡ false))
 
--- the value of what was found lies inside the table
+-- the value of what was found lies inside the table that the answer says
 abbrev pub Inside : Type 0
-Inside = (table name : List ℕ) (r : Found) → LooksUp table name r → foundNumber r ≡ 0 → foundStart r + foundLength r ≤ length table
+Inside =
+    (farm house name : List ℕ) (r : Found) (holder : Holder) → LooksUp farm house name r → foundNumber r ≡ 0 → foundCounted r ≡ countedIn holder
+    → foundStart r + foundLength r ≤ length (heldBy holder farm house)
+
+-- the part that is handed back is that value where a name is known, and an empty one elsewhere
+abbrev pub Part : Type 0
+Part =
+    (farm house name part : List ℕ) (r : Found) → LooksUp farm house name r → HandsBack farm house name part
+    → ((holder : Holder) → foundNumber r ≡ 0 → foundCounted r ≡ countedIn holder
+    → part ≡ take (foundLength r) (drop (foundStart r) (heldBy holder farm house)))
+    × ((foundNumber r ≡ 0 → ⊥) → part ≡ [])

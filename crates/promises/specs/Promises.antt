@@ -3,6 +3,7 @@ use Rattle.promises.specs.Ties as Ties
 use Rattle.promises.specs.Examples.{All, examples}
 use Rattle.promises.specs.Conversions as Conversions
 use Rattle.promises.specs.Readings as Readings
+use Rattle.promises.specs.TwoTables as TwoTables
 use Rattle.promises.specs.Lookups as Lookups
 use Rattle.promises.specs.Translations as Translations
 use Rattle.promises.specs.Evaluations as Evaluations
@@ -28,7 +29,14 @@ pub record Promises : Type 0 where
   pub read-one-answer : Readings.OneAnswer
   pub read-accepts : Readings.Accepts
   pub read-refusals : Readings.Refusals
-  -- `check_table` and `look_up`
+  -- two tables: how they are judged, what a name means in them, what it spends
+  pub tables-judged-in-order : TwoTables.InOrder
+  pub farm-first : TwoTables.FarmFirst
+  pub house-next : TwoTables.HouseNext
+  pub empty-farm : TwoTables.EmptyFarm
+  pub macro-of-either : TwoTables.MacroOfEither
+  pub one-look-up : TwoTables.OneLookUp
+  -- `check_table`, `look_up` and `look_up_value`
   pub check-tied : Ties.CheckTable
   pub check-one-answer : Lookups.OneCheck
   pub check-accepts : Lookups.CheckAccepts
@@ -39,9 +47,14 @@ pub record Promises : Type 0 where
   pub look-up-one-answer : Lookups.OneFound
   pub look-up-accepts : Lookups.LookUpAccepts
   pub look-up-refusals : Lookups.LookUpRefusals
+  pub look-up-judges : Lookups.Judges
   pub look-up-finds : Lookups.Finds
+  pub look-up-hides : Lookups.Hides
   pub look-up-misses : Lookups.Misses
   pub look-up-inside : Lookups.Inside
+  pub look-up-value-tied : Ties.LookUpValue
+  pub look-up-value-one-part : Lookups.OnePart
+  pub look-up-value-part : Lookups.Part
   -- `translate`
   pub translate-tied : Ties.Translate
   pub translate-one-answer : Translations.OneAnswer

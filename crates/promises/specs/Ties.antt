@@ -13,9 +13,10 @@ use Rattle.numbers.specs.declared.Converted.{Converted}
 use Rattle.reader.proofs.read_unsigned.Reads as read-unsigned
 use Rattle.reader.specs.declared.Reading.{Reading}
 use Rattle.variables.proofs.check_table.Reads as check-table
-use Rattle.variables.proofs.look_up.Reads as look-up
+use Rattle.variables.proofs.both.look_up.Reads as look-up
+use Rattle.variables.proofs.both.look_up_value.Reads as look-up-value
 use Rattle.variables.specs.declared.Checked.{Checked}
-use Rattle.variables.specs.declared.Found.{Found}
+use Rattle.variables.specs.declared.both.Found.{Found}
 use Rattle.gs.proofs.translate.Reads as translate
 use Rattle.gs.specs.declared.Translated.{Translated}
 use Rattle.symbols.specs.declared.flags.Flags.{Flags}
@@ -37,7 +38,7 @@ use Rattle.nosgoludd.specs.declared.readings.NosNumber.{NosNumber}
 use Rattle.nosgoludd.specs.declared.checks.NosChecked.{NosChecked}
 use Rattle.nosgoludd.specs.declared.lookups.NosVariable.{NosVariable}
 use Rattle.nosgoludd.specs.declared.evaluations.NosValue.{NosValue}
-use Rattle.promises.specs.Allowed.{Converts, Reads, Checks, LooksUp, Translates, Evaluates}
+use Rattle.promises.specs.Allowed.{Converts, Reads, Checks, LooksUp, HandsBack, Translates, Evaluates}
 
 abbrev pub Convert : Type 0
 Convert =
@@ -54,19 +55,24 @@ CheckTable = (κs : Lfts 1) (table : RefT (List ℕ)) (r : Checked) → check-ta
 
 abbrev pub LookUp : Type 0
 LookUp =
-    (κs : Lfts 2) (table name : RefT (List ℕ)) (r : Found)
-    → look-up.Learnt κs (table, (name, tt)) r (table, (name, tt)) → LooksUp (now table) (now name) r
+    (κs : Lfts 2) (farm house name : RefT (List ℕ)) (r : Found)
+    → look-up.Learnt κs (farm, (house, (name, tt))) r (farm, (house, (name, tt))) → LooksUp (now farm) (now house) (now name) r
+
+abbrev pub LookUpValue : Type 0
+LookUpValue =
+    (κs : Lfts 2) (farm house name r : RefT (List ℕ))
+    → look-up-value.Learnt κs (farm, (house, (name, tt))) r (farm, (house, (name, tt))) → HandsBack (now farm) (now house) (now name) (now r)
 
 abbrev pub Translate : Type 0
 Translate =
-    (κs : Lfts 3) (text table : RefT (List ℕ)) (flags : Flags) (allowance : ℕ) (out after : RefT (List ℕ)) (r : Translated)
-    → translate.Learnt κs (text, (table, (flags, (allowance, (out, tt))))) r (text, (table, (flags, (allowance, (after, tt)))))
-    → Translates (now text) (now table) (flags .0) allowance (now out) r (now after)
+    (κs : Lfts 3) (text farm house : RefT (List ℕ)) (flags : Flags) (allowance : ℕ) (out after : RefT (List ℕ)) (r : Translated)
+    → translate.Learnt κs (text, (farm, (house, (flags, (allowance, (out, tt)))))) r (text, (farm, (house, (flags, (allowance, (after, tt))))))
+    → Translates (now text) (now farm) (now house) (flags .0) allowance (now out) r (now after)
 
 abbrev pub Evaluate : Type 0
 Evaluate =
-    (κs : Lfts 2) (text table : RefT (List ℕ)) (allowance : ℕ) (r : Evaluated)
-    → evaluate.Learnt κs (text, (table, (allowance, tt))) r (text, (table, (allowance, tt))) → Evaluates (now text) (now table) allowance r
+    (κs : Lfts 2) (text farm house : RefT (List ℕ)) (allowance : ℕ) (r : Evaluated)
+    → evaluate.Learnt κs (text, (farm, (house, (allowance, tt)))) r (text, (farm, (house, (allowance, tt)))) → Evaluates (now text) (now farm) (now house) allowance r
 
 -- The C face: what a caller learns is the fields of an answer that the operation's contract allows, and what it leaves
 pub record FaceConverts (call value : ℕ) (buf : List ℕ) (r : NosAnswer) (after : List ℕ) : Type 0 where
@@ -98,36 +104,36 @@ pub record FaceChecks (table : List ℕ) (r : NosChecked) : Type 0 where
 abbrev pub NosCheckTable : Type 0
 NosCheckTable = (κs : Lfts 1) (table : RefT (List ℕ)) (r : NosChecked) → nos-check-table.Learnt κs (table, tt) r (table, tt) → FaceChecks (now table) r
 
-pub record FaceLooksUp (table name : List ℕ) (r : NosVariable) : Type 0 where
+pub record FaceLooksUp (farm house name : List ℕ) (r : NosVariable) : Type 0 where
   pub answer : Found
-  pub allowed : LooksUp table name answer
+  pub allowed : LooksUp farm house name answer
   pub face : r ≡ foundFace answer
 
 abbrev pub NosLookUp : Type 0
 NosLookUp =
-    (κs : Lfts 2) (name table : RefT (List ℕ)) (r : NosVariable)
-    → nos-look-up.Learnt κs (name, (table, tt)) r (name, (table, tt)) → FaceLooksUp (now table) (now name) r
+    (κs : Lfts 2) (name farm house : RefT (List ℕ)) (r : NosVariable)
+    → nos-look-up.Learnt κs (name, (farm, (house, tt))) r (name, (farm, (house, tt))) → FaceLooksUp (now farm) (now house) (now name) r
 
-pub record FaceTranslates (text table : List ℕ) (flags allowance : ℕ) (out : List ℕ) (r : NosAnswer) (after : List ℕ) : Type 0 where
+pub record FaceTranslates (text farm house : List ℕ) (flags allowance : ℕ) (out : List ℕ) (r : NosAnswer) (after : List ℕ) : Type 0 where
   pub answer : Translated
-  pub allowed : Translates text table flags allowance out answer after
+  pub allowed : Translates text farm house flags allowance out answer after
   pub face : r ≡ answerFace (translatedAnswer answer)
 
 abbrev pub NosTranslate : Type 0
 NosTranslate =
-    (κs : Lfts 3) (text table : RefT (List ℕ)) (flags allowance : ℕ) (out after : RefT (List ℕ)) (r : NosAnswer)
-    → nos-translate.Learnt κs (text, (table, (flags, (allowance, (out, tt))))) r (text, (table, (flags, (allowance, (after, tt)))))
-    → FaceTranslates (now text) (now table) flags allowance (now out) r (now after)
+    (κs : Lfts 3) (text farm house : RefT (List ℕ)) (flags allowance : ℕ) (out after : RefT (List ℕ)) (r : NosAnswer)
+    → nos-translate.Learnt κs (text, (farm, (house, (flags, (allowance, (out, tt)))))) r (text, (farm, (house, (flags, (allowance, (after, tt))))))
+    → FaceTranslates (now text) (now farm) (now house) flags allowance (now out) r (now after)
 
-pub record FaceEvaluates (text table : List ℕ) (allowance : ℕ) (r : NosValue) : Type 0 where
+pub record FaceEvaluates (text farm house : List ℕ) (allowance : ℕ) (r : NosValue) : Type 0 where
   pub answer : Evaluated
-  pub allowed : Evaluates text table allowance answer
+  pub allowed : Evaluates text farm house allowance answer
   pub face : r ≡ evaluationFace answer
 
 abbrev pub NosEvaluate : Type 0
 NosEvaluate =
-    (κs : Lfts 2) (text table : RefT (List ℕ)) (allowance : ℕ) (r : NosValue)
-    → nos-evaluate.Learnt κs (text, (table, (allowance, tt))) r (text, (table, (allowance, tt))) → FaceEvaluates (now text) (now table) allowance r
+    (κs : Lfts 2) (text farm house : RefT (List ℕ)) (allowance : ℕ) (r : NosValue)
+    → nos-evaluate.Learnt κs (text, (farm, (house, (allowance, tt)))) r (text, (farm, (house, (allowance, tt)))) → FaceEvaluates (now text) (now farm) (now house) allowance r
 
 -- The program's answer to a text: its translation, or the line of its refusal, at the start of the buffer, and the rest of the buffer kept
 abbrev pub ProgramAnswer : Type 0
@@ -141,15 +147,16 @@ pub record Any : Type 0 where
   pub convert : (κs : Lfts 1) (call value : ℕ) (buf : RefT (List ℕ)) → convert.Asked κs (call, (value, (buf, tt)))
   pub read-unsigned : (κs : Lfts 1) (text : RefT (List ℕ)) (whole : Bool) (limit : ℕ) → read-unsigned.Asked κs (text, (whole, (limit, tt)))
   pub check-table : (κs : Lfts 1) (table : RefT (List ℕ)) → check-table.Asked κs (table, tt)
-  pub look-up : (κs : Lfts 2) (table name : RefT (List ℕ)) → look-up.Asked κs (table, (name, tt))
-  pub translate : (κs : Lfts 3) (text table : RefT (List ℕ)) (flags : Flags) (allowance : ℕ) (out : RefT (List ℕ))
-      → translate.Asked κs (text, (table, (flags, (allowance, (out, tt)))))
-  pub evaluate : (κs : Lfts 2) (text table : RefT (List ℕ)) (allowance : ℕ) → evaluate.Asked κs (text, (table, (allowance, tt)))
+  pub look-up : (κs : Lfts 2) (farm house name : RefT (List ℕ)) → look-up.Asked κs (farm, (house, (name, tt)))
+  pub look-up-value : (κs : Lfts 2) (farm house name : RefT (List ℕ)) → look-up-value.Asked κs (farm, (house, (name, tt)))
+  pub translate : (κs : Lfts 3) (text farm house : RefT (List ℕ)) (flags : Flags) (allowance : ℕ) (out : RefT (List ℕ))
+      → translate.Asked κs (text, (farm, (house, (flags, (allowance, (out, tt))))))
+  pub evaluate : (κs : Lfts 2) (text farm house : RefT (List ℕ)) (allowance : ℕ) → evaluate.Asked κs (text, (farm, (house, (allowance, tt))))
   pub nos-convert : (κs : Lfts 1) (call value : ℕ) (buf : RefT (List ℕ)) → nos-convert.Asked κs (call, (value, (buf, tt)))
   pub nos-read-unsigned : (κs : Lfts 1) (text : RefT (List ℕ)) (whole limit : ℕ) → nos-read-unsigned.Asked κs (text, (whole, (limit, tt)))
   pub nos-check-table : (κs : Lfts 1) (table : RefT (List ℕ)) → nos-check-table.Asked κs (table, tt)
-  pub nos-look-up : (κs : Lfts 2) (name table : RefT (List ℕ)) → nos-look-up.Asked κs (name, (table, tt))
-  pub nos-translate : (κs : Lfts 3) (text table : RefT (List ℕ)) (flags allowance : ℕ) (out : RefT (List ℕ))
-      → nos-translate.Asked κs (text, (table, (flags, (allowance, (out, tt)))))
-  pub nos-evaluate : (κs : Lfts 2) (text table : RefT (List ℕ)) (allowance : ℕ) → nos-evaluate.Asked κs (text, (table, (allowance, tt)))
+  pub nos-look-up : (κs : Lfts 2) (name farm house : RefT (List ℕ)) → nos-look-up.Asked κs (name, (farm, (house, tt)))
+  pub nos-translate : (κs : Lfts 3) (text farm house : RefT (List ℕ)) (flags allowance : ℕ) (out : RefT (List ℕ))
+      → nos-translate.Asked κs (text, (farm, (house, (flags, (allowance, (out, tt))))))
+  pub nos-evaluate : (κs : Lfts 2) (text farm house : RefT (List ℕ)) (allowance : ℕ) → nos-evaluate.Asked κs (text, (farm, (house, (allowance, tt))))
   pub program : (κs : Lfts 2) (text out : RefT (List ℕ)) → program.Asked κs (text, (out, tt))

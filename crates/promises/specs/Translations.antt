@@ -6,10 +6,10 @@ use mathlib.Core.List.{List, _++_, List·Memᴰ}
 use mathlib.Core.Logic.{_↔_}
 use Prim.Native.Nat.{ℕ, _+_, _≤_, _<_}
 use lib.ListN.{length, drop}
-use Rattle.paper.specs.Answers.{in-text, in-table, Answer, refusal, GrownWhole}
+use Rattle.paper.specs.Answers.{in-text, in-house, in-farm, countedIn, Answer, refusal, GrownWhole}
 use Rattle.paper.specs.Refusals.{no-room, allowance-spent, over-length, longest}
 use Rattle.paper.specs.Traces.{Trace, bytes, answer, Succeeds, lookUps, allowed}
-use Rattle.variables.specs.Judgements.{Judged, good, long-text, bad-table, judgement}
+use Rattle.variables.specs.Judgements.{Judgement, good, long-text, bad-table, judgement}
 use Rattle.gs.specs.Translations.{readingOf, translatedAnswer, translateNumbers}
 use Rattle.gs.specs.declared.Translated.{Translated}
 use Rattle.promises.specs.Accepted.{isTranslated}
@@ -18,104 +18,106 @@ use Rattle.promises.specs.Allowed.{Translates}
 -- one answer and one content of the buffer
 abbrev pub OneAnswer : Type 0
 OneAnswer =
-    (text table : List ℕ) (flags allowance : ℕ) (out after after′ : List ℕ) (r r′ : Translated)
-    → Translates text table flags allowance out r after → Translates text table flags allowance out r′ after′ → (r ≡ r′) × (after ≡ after′)
+    (text farm house : List ℕ) (flags allowance : ℕ) (out after after′ : List ℕ) (r r′ : Translated)
+    → Translates text farm house flags allowance out r after → Translates text farm house flags allowance out r′ after′ → (r ≡ r′) × (after ≡ after′)
 
 -- the number is 0 exactly in the case of a translation
 abbrev pub Accepts : Type 0
 Accepts =
-    (text table : List ℕ) (flags allowance : ℕ) (out after : List ℕ) (r : Translated)
-    → Translates text table flags allowance out r after → (translatedAnswer r .number ≡ 0) ↔ (isTranslated r ≡ true)
+    (text farm house : List ℕ) (flags allowance : ℕ) (out after : List ℕ) (r : Translated)
+    → Translates text farm house flags allowance out r after → (translatedAnswer r .number ≡ 0) ↔ (isTranslated r ≡ true)
 
 -- Demand 1: accepted, or one of the listed refusals
 abbrev pub Refusals : Type 0
 Refusals =
-    (text table : List ℕ) (flags allowance : ℕ) (out after : List ℕ) (r : Translated)
-    → Translates text table flags allowance out r after → List·Memᴰ (translatedAnswer r .number) translateNumbers
+    (text farm house : List ℕ) (flags allowance : ℕ) (out after : List ℕ) (r : Translated)
+    → Translates text farm house flags allowance out r after → List·Memᴰ (translatedAnswer r .number) translateNumbers
 
 -- a refusal changes no byte
 abbrev pub Kept : Type 0
 Kept =
-    (text table : List ℕ) (flags allowance : ℕ) (out after : List ℕ) (r : Translated) → Translates text table flags allowance out r after
+    (text farm house : List ℕ) (flags allowance : ℕ) (out after : List ℕ) (r : Translated) → Translates text farm house flags allowance out r after
     → (translatedAnswer r .number ≡ 0 → ⊥) → after ≡ out
 
 -- its free is the room, and its need 0 but for No room
 abbrev pub Refused : Type 0
 Refused =
-    (text table : List ℕ) (flags allowance : ℕ) (out after : List ℕ) (r : Translated) → Translates text table flags allowance out r after
+    (text farm house : List ℕ) (flags allowance : ℕ) (out after : List ℕ) (r : Translated) → Translates text farm house flags allowance out r after
     → (translatedAnswer r .number ≡ 0 → ⊥)
     → (translatedAnswer r .free ≡ length out) × ((translatedAnswer r .number ≡ no-room → ⊥) → translatedAnswer r .need ≡ 0)
 
 -- Demand 2: an accepted text leaves the bytes that its reading gives, as many as the need, and what is behind them
 abbrev pub Bytes : Type 0
 Bytes =
-    (text table : List ℕ) (flags allowance : ℕ) (out after : List ℕ) (r : Translated) → Translates text table flags allowance out r after
+    (text farm house : List ℕ) (flags allowance : ℕ) (out after : List ℕ) (r : Translated) → Translates text farm house flags allowance out r after
     → translatedAnswer r .number ≡ 0
-    → let given = bytes (readingOf text table flags) in
+    → let given = bytes (readingOf text farm house flags) in
     (after ≡ given ++ drop (length given) out) × (translatedAnswer r .need ≡ length given)
 
--- the answer, whatever is found of text and table before the text is read: 18 and 13 go by neither room nor allowance, and say what
+-- the answer, whatever is found of text and tables before the text is read: 18 and 13 go by neither room nor allowance, and say what
 -- their place is counted in; else the answer is that of the reading's trace
-abbrev pub judgedAnswer : Judged → Trace → ℕ → ℕ → Answer
+abbrev pub judgedAnswer : Judgement → Trace → ℕ → ℕ → Answer
 judgedAnswer good reading allowance room = answer reading (allowed allowance) room
 judgedAnswer long-text reading allowance room = refusal over-length in-text 0 room
-judgedAnswer (bad-table number place) reading allowance room = refusal number in-table place room
+judgedAnswer (bad-table number holder place) reading allowance room = refusal number (countedIn holder) place room
 
 abbrev pub ByReading : Type 0
 ByReading =
-    (text table : List ℕ) (flags allowance : ℕ) (out after : List ℕ) (r : Translated) → Translates text table flags allowance out r after
-    → translatedAnswer r ≡ judgedAnswer (judgement text table) (readingOf text table flags) allowance (length out)
+    (text farm house : List ℕ) (flags allowance : ℕ) (out after : List ℕ) (r : Translated) → Translates text farm house flags allowance out r after
+    → translatedAnswer r ≡ judgedAnswer (judgement text farm house) (readingOf text farm house flags) allowance (length out)
 
--- a text is accepted exactly when it and its table are good, the reading succeeds within its allowance, and what it needs has room
+-- a text is accepted exactly when it and its tables are good, the reading succeeds within its allowance, and what it needs has room
 abbrev pub Accepted : Type 0
 Accepted =
-    (text table : List ℕ) (flags allowance : ℕ) (out after : List ℕ) (r : Translated) → Translates text table flags allowance out r after
-    → let reading = readingOf text table flags in
+    (text farm house : List ℕ) (flags allowance : ℕ) (out after : List ℕ) (r : Translated) → Translates text farm house flags allowance out r after
+    → let reading = readingOf text farm house flags in
     (translatedAnswer r .number ≡ 0)
-    ↔ ((judgement text table ≡ good) × (lookUps reading ≤ allowed allowance) × Succeeds reading × (length (bytes reading) ≤ length out))
+    ↔ ((judgement text farm house ≡ good) × (lookUps reading ≤ allowed allowance) × Succeeds reading × (length (bytes reading) ≤ length out))
 
--- 18 exactly where the text is too long, counted in the text, or else the table, counted in the table
+-- 18 exactly where the text is too long, counted in the text, or else the farm's table, counted there, or else the house's
 abbrev pub OverLength : Type 0
 OverLength =
-    (text table : List ℕ) (flags allowance : ℕ) (out after : List ℕ) (r : Translated) → Translates text table flags allowance out r after
+    (text farm house : List ℕ) (flags allowance : ℕ) (out after : List ℕ) (r : Translated) → Translates text farm house flags allowance out r after
     → (((translatedAnswer r .number ≡ over-length) × (translatedAnswer r .counted ≡ in-text)) ↔ (longest < length text))
-    × (((translatedAnswer r .number ≡ over-length) × (translatedAnswer r .counted ≡ in-table)) ↔ ((length text ≤ longest) × (longest < length table)))
+    × (((translatedAnswer r .number ≡ over-length) × (translatedAnswer r .counted ≡ in-farm)) ↔ ((length text ≤ longest) × (longest < length farm)))
+    × (((translatedAnswer r .number ≡ over-length) × (translatedAnswer r .counted ≡ in-house))
+    ↔ ((length text ≤ longest) × (length farm ≤ longest) × (longest < length house)))
 
 -- Demand 3: an answer other than No room or Allowance spent stays the same under every larger room and allowance: the same number, place,
 -- what it is counted in, need and bytes, its free up by exactly the room added
 abbrev pub Larger : Type 0
 Larger =
-    (text table : List ℕ) (flags allowance allowance′ more : ℕ) (out after out′ after′ : List ℕ) (r r′ : Translated)
+    (text farm house : List ℕ) (flags allowance allowance′ more : ℕ) (out after out′ after′ : List ℕ) (r r′ : Translated)
     → allowance ≤ allowance′ → length out′ ≡ length out + more
-    → Translates text table flags allowance out r after → Translates text table flags allowance′ out′ r′ after′
+    → Translates text farm house flags allowance out r after → Translates text farm house flags allowance′ out′ r′ after′
     → (translatedAnswer r .number ≡ no-room → ⊥) → (translatedAnswer r .number ≡ allowance-spent → ⊥)
     → GrownWhole after out′ after′ more (translatedAnswer r) (translatedAnswer r′)
 
 -- No room comes exactly when the reading succeeds within its allowance and needs more than the room
 abbrev pub NoRoom : Type 0
 NoRoom =
-    (text table : List ℕ) (flags allowance : ℕ) (out after : List ℕ) (r : Translated) → Translates text table flags allowance out r after
-    → let reading = readingOf text table flags in
+    (text farm house : List ℕ) (flags allowance : ℕ) (out after : List ℕ) (r : Translated) → Translates text farm house flags allowance out r after
+    → let reading = readingOf text farm house flags in
     (translatedAnswer r .number ≡ no-room)
-    ↔ ((judgement text table ≡ good) × (lookUps reading ≤ allowed allowance) × Succeeds reading × (length out < length (bytes reading)))
+    ↔ ((judgement text farm house ≡ good) × (lookUps reading ≤ allowed allowance) × Succeeds reading × (length out < length (bytes reading)))
 
 -- its need is the number of the bytes that the reading gives, and does not change with the allowance
 abbrev pub Need : Type 0
 Need =
-    (text table : List ℕ) (flags allowance allowance′ : ℕ) (out after out′ after′ : List ℕ) (r r′ : Translated) → allowance ≤ allowance′
-    → length out′ ≡ length out → Translates text table flags allowance out r after → Translates text table flags allowance′ out′ r′ after′
+    (text farm house : List ℕ) (flags allowance allowance′ : ℕ) (out after out′ after′ : List ℕ) (r r′ : Translated) → allowance ≤ allowance′
+    → length out′ ≡ length out → Translates text farm house flags allowance out r after → Translates text farm house flags allowance′ out′ r′ after′
     → translatedAnswer r .number ≡ no-room
-    → (translatedAnswer r .need ≡ length (bytes (readingOf text table flags))) × (translatedAnswer r′ ≡ translatedAnswer r)
+    → (translatedAnswer r .need ≡ length (bytes (readingOf text farm house flags))) × (translatedAnswer r′ ≡ translatedAnswer r)
 
 -- Allowance spent comes exactly when the reading reaches one look-up more than allowed before any other refusal
 abbrev pub Spent : Type 0
 Spent =
-    (text table : List ℕ) (flags allowance : ℕ) (out after : List ℕ) (r : Translated) → Translates text table flags allowance out r after
-    → (translatedAnswer r .number ≡ allowance-spent) ↔ ((judgement text table ≡ good) × (allowed allowance < lookUps (readingOf text table flags)))
+    (text farm house : List ℕ) (flags allowance : ℕ) (out after : List ℕ) (r : Translated) → Translates text farm house flags allowance out r after
+    → (translatedAnswer r .number ≡ allowance-spent) ↔ ((judgement text farm house ≡ good) × (allowed allowance < lookUps (readingOf text farm house flags)))
 
 -- The second ask: with the room that No room carries, and with any larger one, the same text is accepted
 abbrev pub SecondAsk : Type 0
 SecondAsk =
-    (text table : List ℕ) (flags allowance : ℕ) (out after out′ after′ : List ℕ) (r r′ : Translated) → Translates text table flags allowance out r after
-    → translatedAnswer r .number ≡ no-room → translatedAnswer r .need ≤ length out′ → Translates text table flags allowance out′ r′ after′
+    (text farm house : List ℕ) (flags allowance : ℕ) (out after out′ after′ : List ℕ) (r r′ : Translated) → Translates text farm house flags allowance out r after
+    → translatedAnswer r .number ≡ no-room → translatedAnswer r .need ≤ length out′ → Translates text farm house flags allowance out′ r′ after′
     → translatedAnswer r′ .number ≡ 0

@@ -74,6 +74,14 @@ checked-bounded table =
     })
     (λ e. scanned-bounded table (ltb-false longest (length table) e) most 0 0 (omega arith))
 
+-- a table whose check has no refusal's number is good
+pub good-table : (table : List ℕ) → checkNumber (checked table) ≡ 0 → (n : ℕ) × (checked table ≡ Good n)
+good-table table = go (checked table) refl
+  where
+    go : (r : Checked) → checked table ≡ r → checkNumber r ≡ 0 → (n : ℕ) × (r ≡ Good n)
+    go (Good n) e z = (n, refl)
+    go (BadTable number at) e z = absurd (omega (arith, checked-bounded table .refused number at e))
+
 -- a scan counts no more than 256 records
 pub count-bounded : (table : List ℕ) {n : ℕ} → length table ≤ longest → scan table ≡ Good n → n ≤ most
 count-bounded table short e = subst (λ r. checkCount r ≤ most) e (scanned-bounded table short most 0 0 (omega arith) .count)

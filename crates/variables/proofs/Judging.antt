@@ -83,6 +83,18 @@ module _ (farm house : List ℕ) where
       go (no p) (no q) =
           rw (le-ltb longest (length farm) (omega arith), le-ltb longest (length house) (omega arith)) (scanned-case (omega arith) (omega arith))
 
+-- and it comes to nothing else
+pub judged-so : (farm house : List ℕ) {r : Judged} → Case farm house r → judged farm house ≡ r
+unfolding judged
+judged-so farm house (long-farm l) = rw (lt-ltb longest (length farm) l)
+judged-so farm house (long-house f l) = rw (le-ltb longest (length farm) f, lt-ltb longest (length house) l)
+judged-so farm house (bad-farm f h place b) =
+    rw (le-ltb longest (length farm) f, le-ltb longest (length house) h, sym (checked-short farm f) ∙ b)
+judged-so farm house (bad-house f h own g place b) =
+    rw (le-ltb longest (length farm) f, le-ltb longest (length house) h, sym (checked-short farm f) ∙ g, sym (checked-short house h) ∙ b)
+judged-so farm house (both-good f h own g count b) =
+    rw (le-ltb longest (length farm) f, le-ltb longest (length house) h, sym (checked-short farm f) ∙ g, sym (checked-short house h) ∙ b)
+
 module _ (text farm house : List ℕ) where
   -- a text that is too long
   pub over : longest < length text → judgement text farm house ≡ long-text

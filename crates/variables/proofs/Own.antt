@@ -61,3 +61,17 @@ both-own farm house name =
     or-else-own farm house Farm (soughtIn farm name) (heldIn House (soughtIn house name)) (sought-own farm name)
     (subst (OwnHeld farm house) (or-nowhere (heldIn House (soughtIn house name)))
     (or-else-own farm house House (soughtIn house name) nowhere (sought-own house name) (record { own = λ h e p. clash (cc) })))
+
+-- where a name is found: in the farm's table, or in the house's and not in the farm's, or in neither
+pub data Where (farm house name : List ℕ) : Holding → Type 0 where
+  in-farm : (e : Entry) → soughtIn farm name ≡ present e → Where farm house name (held Farm e)
+  in-house : (e : Entry) → soughtIn farm name ≡ absent → soughtIn house name ≡ present e → Where farm house name (held House e)
+  in-neither : soughtIn farm name ≡ absent → soughtIn house name ≡ absent → Where farm house name nowhere
+
+pub sought-where : (farm house name : List ℕ) → Where farm house name (soughtInBoth farm house name)
+sought-where farm house name = go (soughtIn farm name) (soughtIn house name) refl refl
+  where
+    go : (f h : Sought) → soughtIn farm name ≡ f → soughtIn house name ≡ h → Where farm house name (orElse (heldIn Farm f) (heldIn House h))
+    go (present e) h p q = in-farm e p
+    go absent (present e) p q = in-house e p q
+    go absent absent p q = in-neither p q

@@ -52,7 +52,7 @@ fn holder_of(line: u32) -> Holder
 }
 
 // That one of the two tables that holds something.
-pub fn table_of<'a>(farm: &'a [u8], house: &'a [u8], holder: Holder) -> &'a [u8]
+pub(crate) fn table_of<'a>(farm: &'a [u8], house: &'a [u8], holder: Holder) -> &'a [u8]
     ensures { λ r. ⌜ now r ≡ heldBy holder (now (farm .entry)) (now (house .entry)) ⌝ }
 {
     match holder {

@@ -1,0 +1,102 @@
+-- What the farm's table and the house's promise together: the order in which they are judged, what a name means in them, and what that
+-- spends.
+use mathlib.Core.Path.{_≡_}
+use mathlib.Core.Bool.{true, false}
+use mathlib.Core.List.{List, [], List·Memᴰ}
+use mathlib.Core.Logic.{_↔_}
+use Prim.Native.Nat.{ℕ, suc, _≤_, _<_}
+use lib.ListN.{length}
+use Rattle.paper.specs.Refusals as Refusals
+use Rattle.paper.specs.Refusals.{over-length, longest}
+use Rattle.paper.specs.Traces.{Trace, spends, enters, lookUps}
+use Rattle.paper.specs.declared.Holder.the-variants.{Farm, House}
+use Rattle.records.specs.Records.{Entry, sameName}
+use Rattle.variables.specs.Tables.{Sought, absent, present, badTable, checked, checkNumber, recordsOf, soughtIn}
+use Rattle.variables.specs.Names.{Meaning, unknown, string-of, integer-of, macro-of, meant, namesOf}
+use Rattle.variables.specs.Judgements.{good, long-text, bad-table, judgement}
+use Rattle.gs.specs.Readings.{Expand, nameGives, expands, wholeText, readAt}
+use Rattle.gs.specs.Translations.{readingOf}
+use Rattle.expressions.specs.Trees.{wholeTree}
+use Rattle.expressions.specs.Evaluations.{nameSteps, evaluation, result}
+use Rattle.expressions.specs.Answers as Expressions
+
+-- neither the text nor a table is too long
+abbrev pub Short : List ℕ → List ℕ → List ℕ → Type 0
+Short text farm house = (length text ≤ longest) × (length farm ≤ longest) × (length house ≤ longest)
+
+-- Demand 1: 18 of the text, of the farm's table, of the house's; then 13 of the farm's at its first bad record, and of the house's at its
+-- own; each exactly where nothing before it is found
+pub record Ordered (text farm house : List ℕ) : Type 0 where
+  pub text-long : (judgement text farm house ≡ long-text) ↔ (longest < length text)
+  pub farm-long : (judgement text farm house ≡ bad-table over-length Farm 0) ↔ ((length text ≤ longest) × (longest < length farm))
+  pub house-long :
+      (judgement text farm house ≡ bad-table over-length House 0)
+      ↔ ((length text ≤ longest) × (length farm ≤ longest) × (longest < length house))
+  pub farm-bad :
+      (place : ℕ) → (judgement text farm house ≡ bad-table Refusals.bad-table Farm place)
+      ↔ (Short text farm house × (checked farm ≡ badTable Refusals.bad-table place))
+  pub house-bad :
+      (place : ℕ) → (judgement text farm house ≡ bad-table Refusals.bad-table House place)
+      ↔ (Short text farm house × (checkNumber (checked farm) ≡ 0) × (checked house ≡ badTable Refusals.bad-table place))
+  pub both-good :
+      (judgement text farm house ≡ good)
+      ↔ (Short text farm house × (checkNumber (checked farm) ≡ 0) × (checkNumber (checked house) ≡ 0))
+
+abbrev pub InOrder : Type 0
+InOrder = (text farm house : List ℕ) → Ordered text farm house
+
+-- a farm's name hides the house's, whatever the kinds are and whatever the house's table holds
+abbrev pub FarmFirst : Type 0
+FarmFirst =
+    (farm house name : List ℕ) (e : Entry) → checkNumber (checked farm) ≡ 0 → List·Memᴰ e (recordsOf farm) → sameName (e .name) name ≡ true
+    → namesOf farm house name ≡ meant e
+
+-- what a name means in one table alone
+abbrev pub alone : Sought → Meaning
+alone absent = unknown
+alone (present e) = meant e
+
+abbrev pub meantIn : List ℕ → List ℕ → Meaning
+meantIn table name = alone (soughtIn table name)
+
+-- a name that the farm's table has not means what it means in the house's alone
+abbrev pub HouseNext : Type 0
+HouseNext =
+    (farm house name : List ℕ) → ((e : Entry) → List·Memᴰ e (recordsOf farm) → sameName (e .name) name ≡ false)
+    → namesOf farm house name ≡ meantIn house name
+
+-- so with an empty farm's table every name does, and the readings are those over the house's alone
+pub record HouseAlone (house : List ℕ) : Type 0 where
+  pub names : (name : List ℕ) → namesOf [] house name ≡ meantIn house name
+  pub translations : (text : List ℕ) (flags : ℕ) → readingOf text [] house flags ≡ readAt (meantIn house) 0 text flags
+  pub evaluations : (text : List ℕ) → Expressions.readingOf text [] house ≡ evaluation (meantIn house) (wholeTree text)
+  pub values : (text : List ℕ) → Expressions.valueIn text [] house ≡ result (meantIn house) (wholeTree text)
+
+abbrev pub EmptyFarm : Type 0
+EmptyFarm = (house : List ℕ) → HouseAlone house
+
+-- the value of a macro, whichever table holds it, is read over both
+abbrev pub MacroOfEither : Type 0
+MacroOfEither =
+    (farm house name value : List ℕ) (levels place : ℕ) (rest : Trace) → let names = namesOf farm house in
+    names name ≡ macro-of value
+    → nameGives (expands names (suc levels)) (names name) name place rest
+    ≡ spends place (enters (record { name = name; place = place }) (wholeText names (expands names levels) value 0) rest)
+
+-- a name that is known spends one look-up, whichever table it ends in, and a macro beside it what its value takes; an unknown one spends none
+pub record SpendsOnce (farm house name : List ℕ) : Type 0 where
+  pub string : (bytes : List ℕ) (expand : Expand) (place : ℕ) (rest : Trace) → namesOf farm house name ≡ string-of bytes
+      → lookUps (nameGives expand (namesOf farm house name) name place rest) ≡ suc (lookUps rest)
+  pub integer : (value : ℕ) (expand : Expand) (place : ℕ) (rest : Trace) → namesOf farm house name ≡ integer-of value
+      → lookUps (nameGives expand (namesOf farm house name) name place rest) ≡ suc (lookUps rest)
+  pub macro : (value : List ℕ) (levels place : ℕ) (rest : Trace) → let names = namesOf farm house in
+      names name ≡ macro-of value
+      → lookUps (nameGives (expands names (suc levels)) (names name) name place rest)
+      ≡ suc (lookUps (enters (record { name = name; place = place }) (wholeText names (expands names levels) value 0) rest))
+  pub in-expression : (value place : ℕ) (rest : Trace) → namesOf farm house name ≡ integer-of value
+      → lookUps (nameSteps (namesOf farm house name) place rest) ≡ suc (lookUps rest)
+  pub none : (expand : Expand) (place : ℕ) (rest : Trace) → namesOf farm house name ≡ unknown
+      → (lookUps (nameGives expand (namesOf farm house name) name place rest) ≡ 0) × (lookUps (nameSteps (namesOf farm house name) place rest) ≡ 0)
+
+abbrev pub OneLookUp : Type 0
+OneLookUp = (farm house name : List ℕ) → SpendsOnce farm house name
