@@ -30,7 +30,7 @@
 #include <stddef.h>
 #include <stdint.h>
 
-#define NOS_STACK 40960u          /* the most bytes of stack that a call takes */
+#define NOS_STACK 49152u          /* the most bytes of stack that a call takes */
 #define NOS_LONGEST 65535u        /* the longest text or table that is read, in bytes */
 #define NOS_NO_LIMIT 4294967295u  /* a limit that refuses nothing */
 

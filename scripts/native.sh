@@ -46,7 +46,8 @@ make_library() {
 
 # The module compiled for this Arm machine, by the same clang with the words that rattle gives it, to $logs/proved.o. A function of the C
 # face whose answer is over 16 bytes has it written where its first argument points, as C on x86-64 does; on Arm that place is handed over
-# in a register of its own, which `sret` asks for. Its 24 bytes are the least that such an answer has.
+# in a register of its own, which `sret` asks for. Its 24 bytes are the least that such an answer has. Functions and loops start at fixed
+# distances, as those of the plain C do that it is measured beside (bench/run): where they come to lie changes a time by some hundredths.
 make_native() {
     "$clang" --target=x86_64-unknown-linux-gnu -x ir "$logs/module.bc" -S -emit-llvm -O0 -Xclang -disable-llvm-passes \
         -o "$logs/module.ll"
@@ -55,5 +56,6 @@ make_native() {
         -e 's/^define noundef ptr \(@nos_[a-z_]*\)(ptr noundef %a0/define void \1(ptr noundef sret([24 x i8]) align 8 %a0/' \
         -e '/^define void @nos_/,/^}/s/^  ret ptr %a0$/  ret void/' "$logs/module.ll" >"$logs/native.ll"
     "$clang" --target=aarch64-unknown-linux-gnu -ffunction-sections -fdata-sections -mllvm -trap-unreachable \
-        -mllvm -no-trap-after-noreturn -Werror -c -x ir "$logs/native.ll" -fPIC -O3 -o "$logs/proved.o"
+        -mllvm -no-trap-after-noreturn -Werror -c -x ir "$logs/native.ll" -fPIC -O3 \
+        -falign-loops=32 -mllvm -align-all-functions=6 -o "$logs/proved.o"
 }
