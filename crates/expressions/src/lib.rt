@@ -93,14 +93,14 @@ pub fn evaluate<'a>(text: &[u8], farm: &'a [u8], house: &'a [u8], allowance: u32
     if LONGEST < text.len() {
         return refused(OVER_LENGTH, 0);
     }
-    let keyed = both::key_tables(farm, house);
-    let judged = keyed.judged;
-    let keys: &[u32] = &keyed.keys;
+    let mut keys = both::NO_KEYS;
+    let judged = both::key_tables(farm, house, &mut keys);
+    let lines: &[u32] = &keys;
     match judged {
         Judged::BadTable { number, holder, at } => Evaluated::BadTable { number, holder, at },
         Judged::Good(count) => {
             let left = paper::allowance::cap(allowance);
-            evaluate_over(text, farm, house, &keys[0..count], left)
+            evaluate_over(text, farm, house, &lines[0..count], left)
         }
     }
 }

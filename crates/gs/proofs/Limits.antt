@@ -5,7 +5,7 @@ use mathlib.Core.List.{List, [], _∷_, List·Memᴰ, Memᴰ·append-left}
 use Prim.Native.Nat.{ℕ, zero, suc, _+_, _-_, _*_, _%_, _≤_}
 use native.Mathlib.Omega.{arith}
 use lib.Dec.{ltb, eqb}
-use lib.ListN.{length, getD, take, drop, length-append, length-take}
+use lib.ListN.{length, take, drop, length-append, length-take}
 use Rattle.paper.specs.Answers.{Answer}
 use Rattle.paper.specs.Refusals.{no-room, too-big, allowance-spent, over-length, longest}
 use Rattle.paper.specs.Traces.{Reference, Trace, ended, faults, gives, asks, spends, enters, bytes, Run, finished, refused, run, runPlace, fit, Ending, done, faulted, beyond, ending, reached, lookUps, allowed}

@@ -7,7 +7,7 @@ use native.Mathlib.Nat.{add-suc, suc-add, add-zero}
 use native.Mathlib.Omega.{arith}
 use lib.Dec.{leb, eqb}
 use borrow.Author.Tests.{le-leb}
-use lib.ListN.{length, getD, set, length-append}
+use lib.ListN.{length, set, length-append}
 use lib.Seq.{sets, length-sets}
 use Rattle.paper.specs.Refusals.{too-big}
 use Rattle.paper.specs.Traces.{Trace, faults, gives, asks, spends, bytes, run}

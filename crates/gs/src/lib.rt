@@ -119,9 +119,9 @@ pub fn translate<'a>(
     if LONGEST < text.len() {
         return refused(OVER_LENGTH, 0, 0, room);
     }
-    let keyed = both::key_tables(farm, house);
-    let judged = keyed.judged;
-    let keys: &[u32] = &keyed.keys;
+    let mut keys = both::NO_KEYS;
+    let judged = both::key_tables(farm, house, &mut keys);
+    let lines: &[u32] = &keys;
     match judged {
         Judged::BadTable { number, holder, at } => Translated::BadTable {
             number,
@@ -133,7 +133,7 @@ pub fn translate<'a>(
             text,
             farm,
             house,
-            &keys[0..count],
+            &lines[0..count],
             flags,
             cap(allowance),
             out,

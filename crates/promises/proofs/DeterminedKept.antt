@@ -1,8 +1,8 @@
 -- Every public function beside the six operations has one answer: its contract says it as a function of what is given.
-use mathlib.Core.Path.{_≡_, refl, ap, ap₂, sym, subst, _∙_}
+use mathlib.Core.Path.{_≡_, refl, ap, ap₂, sym, _∙_}
 use mathlib.Core.Bool.{cond, not}
-use mathlib.Core.List.{List, [], _∷_, _++_}
-use Prim.Native.Nat.{ℕ, _+_, _/_, _%_, _^_}
+use mathlib.Core.List.{[], _∷_, _++_}
+use Prim.Native.Nat.{_+_, _/_, _%_, _^_}
 use denote.Ref.{now}
 use lib.Dec.{eqb}
 use lib.ListN.{length, take, drop, getD}
@@ -16,15 +16,15 @@ use Rattle.forms.specs.declared.calls.Family.{Family}
 use Rattle.forms.specs.declared.calls.Family.the-variants as Families
 use Rattle.forms.specs.declared.forms.Base.{Base}
 use Rattle.forms.specs.declared.forms.Base.the-variants.{Two, Ten, Sixteen}
-use Rattle.numbers.specs.Conversions.{answerOf, bufferOf, convertedBy}
+use Rattle.numbers.specs.Conversions.{answerOf, bufferOf}
 use Rattle.reader.specs.Reading.{reading}
 use Rattle.records.specs.Records as Records
 use Rattle.records.specs.Kinds.{kindNumber, pattern, variableAt}
 use Rattle.records.specs.inner.Keys.{keyOf}
 use Rattle.variables.specs.Tables.{checked}
 use Rattle.variables.specs.Lookups.{lookedUp, partOf}
-use Rattle.variables.specs.inner.Keys.{KeyedAs, matchAs, soughtBy}
-use Rattle.variables.proofs.KeysFind.{one-keyed}
+use Rattle.variables.specs.Judgements as Judgements
+use Rattle.variables.specs.inner.Keys.{laidOver, judgedLines, matchAs, soughtBy}
 use Rattle.symbols.specs.Flags.{has}
 use Rattle.symbols.specs.Symbols.{symbolAt, firstAt, modeOf, endingSpace}
 use Rattle.runs.specs.Plain.{plainByte, alsoEnds}
@@ -119,10 +119,8 @@ determined =
       kind-number = function-of (λ (kind, _). kindNumber kind) (λ κs a r after c. c);
       pattern-of = function-of (λ (value, _). pattern value) (λ κs a r after c. c);
       key-tables =
-          record {
-            one = λ κs κs′ a a′ r r′ after after′ same c c′.
-                one-keyed (now (a′ .0)) (now (a′ .1 .0)) r r′ (subst (λ g. KeyedAs (g .0) (g .1 .0) r) same c) c′;
-          };
+          function-of (λ (farm, (house, (keys, _))). (Judgements.judged farm house, laidOver (judgedLines farm house) keys))
+          (λ κs a r after c. ap₂ (λ r keys. (r, keys)) (c .0) (c .1));
       value-of = function-of (λ (farm, (house, (v, _))). partOf farm house v) (λ κs a r after c. c);
       find = function-of (λ (farm, (house, (keys, (name, _)))). matchAs farm house (soughtBy farm house keys name)) (λ κs a r after c. c);
       symbol-at = function-of (λ (text, (flags, (mode, (at, _)))). symbolAt text (flags .0) mode at) (λ κs a r after c. c);

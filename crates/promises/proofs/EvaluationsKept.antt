@@ -14,7 +14,6 @@ use Rattle.variables.specs.Judgements.{Judgement, good, long-text, bad-table, j
 use Rattle.variables.proofs.Bounds.{bad-number}
 use Rattle.variables.proofs.Judging.{refused as tables-refused}
 use Rattle.expressions.specs.Answers.{readingOf, valueIn, evaluatedBy, evaluated, evaluatedNumber, evaluatedPattern}
-use Rattle.expressions.specs.declared.Evaluated.{Evaluated}
 use Rattle.expressions.proofs.Orders.{by-judgement, when-good, when-long-text, when-bad-table, evaluated-listed, accepted}
 use Rattle.promises.specs.Accepted.{isEvaluated}
 use Rattle.promises.specs.Evaluations.{OneAnswer, Accepts, Refusals, Valued, Placed, JudgedAs, ByReading, Accepted, Larger, Spent}

@@ -227,7 +227,7 @@ finds farm house name r c =
 pub hides : Hides
 hides farm house name r e c =
     subst (λ r. foundNumber r ≡ 0 → List·Memᴰ e (recordsOf farm) → sameName (e .name) name ≡ true
-        → (foundCounted r ≡ in-farm) × (foundPlace r ≡ e .place) × (foundKind r ≡ e .kind))
+    → (foundCounted r ≡ in-farm) × (foundPlace r ≡ e .place) × (foundKind r ≡ e .kind))
     (judged-as farm house name r (c .answer)) (λ z m same. hidden-by farm house name (judged farm house) refl e z m same)
 
 pub misses : Misses

@@ -1,9 +1,7 @@
 -- What two tables promise together is kept.
-use mathlib.Core.Path.{_≡_, refl, ap, sym, subst, _∙_}
-use mathlib.Core.Bool.{true}
+use mathlib.Core.Path.{_≡_, refl, ap, sym, _∙_}
 use mathlib.Core.List.{List, [], _∷_}
-use mathlib.Core.Logic.{_↔_}
-use Prim.Native.Nat.{ℕ, zero, suc, _≤_, _<_}
+use Prim.Native.Nat.{ℕ, suc, _≤_, _<_}
 use native.Mathlib.Omega.{arith}
 use lib.ListN.{length}
 use Rattle.paper.specs.Refusals as Refusals
@@ -11,14 +9,11 @@ use Rattle.paper.specs.Refusals.{over-length, longest}
 use Rattle.paper.specs.Traces.{Trace, lookUps}
 use Rattle.paper.specs.declared.Holder.the-variants.{Farm, House}
 use Rattle.paper.proofs.Choice.{clash}
-use Rattle.records.specs.Records.{Entry, sameName}
 use Rattle.variables.specs.Tables.{Sought, absent, present, entries, sought, badTable, checked, checkNumber, recordsOf, soughtIn}
-use Rattle.variables.specs.Holdings.{heldIn, orElse, Holding, soughtInBoth}
-use Rattle.variables.specs.Names.{Meaning, unknown, string-of, integer-of, macro-of, inReading, namesOf}
+use Rattle.variables.specs.Holdings.{heldIn, orElse}
+use Rattle.variables.specs.Names.{Meaning, inReading, namesOf}
 use Rattle.variables.specs.Judgements as Judgements
-use Rattle.variables.specs.Judgements.{Judgement, good, long-text, bad-table, judgement, judged, judgedBy}
-use Rattle.variables.specs.declared.Checked.{Checked}
-use Rattle.variables.specs.declared.Checked.the-variants.{Good, BadTable}
+use Rattle.variables.specs.Judgements.{good, bad-table, judgement, judgedBy}
 use Rattle.variables.specs.declared.both.Judged.{Judged}
 use Rattle.variables.specs.declared.both.Judged.the-variants.{Good as AllGood, BadTable as OneBad}
 use Rattle.variables.proofs.Bounds.{good-table}
@@ -29,7 +24,7 @@ use Rattle.forms.specs.Calls.{decimalOf}
 use Rattle.gs.specs.Readings.{givesAll, nameGives, expands, readAt}
 use Rattle.expressions.specs.Trees.{wholeTree}
 use Rattle.expressions.specs.Evaluations.{nameSteps, evaluation, result}
-use Rattle.promises.specs.TwoTables.{Short, Ordered, InOrder, FarmFirst, alone, meantIn, HouseNext, EmptyFarm, MacroOfEither, SpendsOnce, OneLookUp}
+use Rattle.promises.specs.TwoTables.{Ordered, InOrder, FarmFirst, alone, meantIn, HouseNext, EmptyFarm, MacroOfEither, OneLookUp}
 
 -- the place of a bad table's refusal
 abbrev judgedPlace : Judged → ℕ

@@ -10,7 +10,7 @@ use lib.IntN.{pos, negℤ}
 use lib.ListN.{length, drop}
 use Rattle.paper.specs.Answers.{Answer, in-text, in-house, in-farm}
 use Rattle.paper.specs.Bytes.{nameByte, wordByte}
-use Rattle.paper.specs.Layings.{terminator, laying, laidIn}
+use Rattle.paper.specs.Layings.{terminator, laying}
 use Rattle.paper.specs.Refusals.{bad-base, too-deep, allowance-spent, bad-table, bad-expression, not-an-integer}
 use Rattle.paper.specs.Texts.{bytes}
 use Rattle.paper.specs.Traces as Traces
@@ -24,7 +24,7 @@ use Rattle.reader.specs.Reading.{digit, judged as judgedReading, inBase, number
 use Rattle.records.specs.Records.{string-kind, integer-kind, headed, sized, fitting, nameAt, valueAt, small, sameName, entryAt}
 use Rattle.variables.specs.Tables.{entries, sought, sound, scanned}
 use Rattle.variables.specs.Judgements.{judged}
-use Rattle.variables.specs.Lookups.{lookedUp, valuePart, foundNumber, foundCounted, foundPlace, foundKind}
+use Rattle.variables.specs.Lookups.{lookedUp, foundNumber, foundCounted, foundPlace, foundKind}
 use Rattle.variables.specs.Names.{meant}
 use Rattle.symbols.specs.Symbols.{symbolAt, active, barred, code, coded, punctuation, toppedCode, toppedSymbol, referred, closed, quotedOther, firstAt, modeOf}
 use Rattle.gs.specs.Readings.{nameGives, contentGives, symbolGives, symbolsFrom, wholeText, expands}
@@ -34,10 +34,9 @@ use Rattle.expressions.specs.Trees.{operatorsFrom, operandAt, wholeTree}
 use Rattle.expressions.specs.Evaluations.{divided}
 use Rattle.gs.specs.declared.Translated.{Translated}
 use Rattle.expressions.specs.declared.Evaluated.{Evaluated}
-use Rattle.variables.specs.declared.both.Found.{Found}
 use Rattle.expressions.specs.Answers.{evaluated, evaluatedNumber, evaluatedCounted, evaluatedPlace, evaluatedValue}
 use Rattle.arithmetic.specs.Values.{signed, sum, difference, product, quotient, remainder}
-use Rattle.promises.specs.Allowed.{Converts, LooksUp, HandsBack, Translates, Evaluates}
+use Rattle.promises.specs.Allowed.{Converts, Translates, Evaluates}
 use Rattle.promises.specs.Conversions.{needed}
 use Rattle.promises.specs.Examples.{writes, lacks, reads, refuses, translates, stops, evaluates, fails, finds, selfNaming, named-x, numbered-7, naming-a, Holds, All, examples}
 use Rattle.promises.proofs.ConversionsKept as Conversions

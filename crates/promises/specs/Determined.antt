@@ -127,7 +127,7 @@ pub record Determined : Type 0 where
   pub kind-number : One kind-number.Learnt rest answer-alone
   pub pattern-of : One pattern-of.Learnt (lent rest) answer-alone
   -- variables: the answer of `value_of` is a part of a table too
-  pub key-tables : One key-tables.Learnt (lent (lent rest)) answer-alone
+  pub key-tables : One key-tables.Learnt (lent (lent (lent rest))) (answer-and (λ (farm, (house, (keys, _))). keys))
   pub value-of : One value-of.Learnt (lent (lent rest)) (λ r after. now r)
   pub find : One find.Learnt (lent (lent (lent (lent rest)))) answer-alone
   -- symbols

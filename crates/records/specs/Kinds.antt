@@ -23,12 +23,12 @@ kindNumber Macro = macro-kind
 abbrev pub pattern : List ℕ → ℕ
 pattern bytes = getD bytes 0 0 + 256 * getD bytes 1 0 + 65536 * getD bytes 2 0 + 16777216 * getD bytes 3 0
 
--- a record as the code hands it out: the table that holds it, its place there, its kind, and where its value lies there
+-- a record as the code hands it out: its place, the table that holds it, its kind, and where its value lies there
 abbrev pub variableAt : Holder → List ℕ → Entry → Variable
 variableAt holder table e =
     record {
-      holder = holder;
       at = record { 0 = e .place };
+      holder = holder;
       kind = kindOf (e .kind);
       start = valueStart table (e .place);
       length = valueLength table (e .place);

@@ -20,10 +20,10 @@ use paper::Holder;
 use paper::RecordPlace;
 use paper::bytes::byte;
 
-// A variable: the table that holds it, its record's place there, its kind, and where its value lies there.
+// A variable: its record's place, the table that holds it, its kind, and where its value lies in that table.
 pub struct Variable {
-    pub holder: Holder,
     pub at: RecordPlace,
+    pub holder: Holder,
     pub kind: Kind,
     pub start: usize,
     pub length: usize,
@@ -72,8 +72,8 @@ pub fn variable_at(holder: Holder, table: &[u8], place: u32) -> Variable
     let at = place as usize;
     let kind = kind_of(byte(table, at + 2));
     Variable {
-        holder,
         at: RecordPlace(at),
+        holder,
         kind,
         start: at + 5 + length_at(table, at + 3),
         length: length_at(table, at + 4),

@@ -15,7 +15,7 @@ use Rattle.paper.proofs.Choice.{either}
 use Rattle.records.specs.Records.{nextPlace, nameAt, sameName, Entry, entryAt}
 use Rattle.records.specs.inner.Keys.{keyOf}
 use Rattle.records.proofs.KeyLaws.{key-small, same-key}
-use Rattle.variables.specs.Tables.{most, entries, Sought, absent, present, sought, before}
+use Rattle.variables.specs.Tables.{most, entries, Sought, present, sought, before}
 use Rattle.variables.specs.Holdings.{heldBy, Holding, nowhere, held, heldIn, orElse}
 use Rattle.variables.specs.inner.Keys.{markOf, lineOf, linesOf, LinesBefore, holderOf, recordBy, names, soughtBy}
 

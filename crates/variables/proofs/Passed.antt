@@ -1,14 +1,20 @@
 -- What a check that came to a place has passed: records one behind the other, and their lines at the start of the keys.
 use mathlib.Core.List.{List, [], _∷_, _++_, map-append, append-nil, append-assoc}
 use mathlib.Core.Path.{_≡_, refl, ap, sym, subst, _∙_}
-use Prim.Native.Nat.{ℕ, suc, _+_, _-_, _<_, _≤_}
+use Prim.Native.Nat.{ℕ, zero, suc, _+_, _-_, _<_, _≤_}
 use native.Mathlib.Omega.{arith}
-use lib.ListN.{length, getD, set, take, drop, length-map, length-append}
+use lib.Dec.{ltb}
+use lib.ListN.{length, getD, set, take, drop, length-map, length-append, length-drop}
 use lib.Seq.{drop-cons, append-snoc, set-append-seam, take-append-seam, drop-append-seam, take-length, drop-length, drop-drop}
+use Rattle.paper.specs.Refusals.{tooLong}
 use Rattle.paper.specs.declared.Holder.{Holder}
+use Rattle.paper.specs.declared.Holder.the-variants.{Farm, House}
+use Rattle.paper.proofs.Choice.{either}
 use Rattle.records.specs.Records.{nextPlace, entryAt}
-use Rattle.variables.specs.Tables.{most, before}
-use Rattle.variables.specs.inner.Keys.{lineOf, linesOf, laidOver}
+use Rattle.variables.specs.Tables.{most, entries, before, scan}
+use Rattle.variables.specs.inner.Keys.{lineOf, linesOf, laidOver, reach, passedLines, behindFarm, bothLines, judgedLines}
+use Rattle.variables.specs.declared.Checked.{Checked}
+use Rattle.variables.specs.declared.Checked.the-variants.{Good, BadTable}
 use Rattle.variables.proofs.Chain.{Chain, end, none-left, exact, snoc}
 
 -- one line more behind others
@@ -86,3 +92,35 @@ module _ (holder : Holder) (table keys₀ : List ℕ) where
           {line next : ℕ} → most ≤ length keys₀ → line ≡ lineOf holder (entryAt table place) → next ≡ nextPlace table place →
           Passed holder table keys₀ (set keys count line) (count + 1) next
       passed-more long l n = rw (l, n) (passed-next-one long)
+
+-- no walk meets more records than it may
+entries-few : (left : ℕ) (table : List ℕ) (stop place : ℕ) → length (entries left table stop place) ≤ left
+unfolding entries
+entries-few zero table stop place = omega arith
+entries-few (suc left) table stop place =
+    let rest = entries left table stop (nextPlace table place) in
+    either (λ es. length es ≤ suc left) (ltb place stop) {x = entryAt table place ∷ rest} {y = []}
+    (λ _. omega (arith, entries-few left table stop (nextPlace table place)))
+    (λ _. omega arith)
+
+passed-few : (holder : Holder) (table : List ℕ) (r : Checked) → length (passedLines holder table r) ≤ most
+passed-few holder table r =
+    omega (arith, length-map (before table (reach table r)) (lineOf holder), entries-few most table (reach table r) 0)
+
+-- so the lines of two tables have room in an array for both
+pub judged-few : (farm house : List ℕ) → length (judgedLines farm house) ≤ most + most
+judged-few farm house =
+    either (λ ls. length ls ≤ most + most) (tooLong farm) {x = []} (λ _. omega arith)
+    (λ _. either (λ ls. length ls ≤ most + most) (tooLong house) {x = []} {y = bothLines farm house} (λ _. omega arith)
+    (λ _. omega (arith, length-append (passedLines Farm farm (scan farm)) second, passed-few Farm farm (scan farm), second-few (scan farm))))
+  where
+    second : List ℕ
+    second = behindFarm (scan farm) (passedLines House house (scan house))
+
+    second-few : (r : Checked) → length (behindFarm r (passedLines House house (scan house))) ≤ most
+    second-few (Good count) = passed-few House house (scan house)
+    second-few (BadTable number at) = omega arith
+
+-- and the array keeps its length
+pub laid-long : (lines keys : List ℕ) → length lines ≤ length keys → length (laidOver lines keys) ≡ length keys
+laid-long lines keys h = omega (arith, length-append lines (drop (length lines) keys), length-drop (length lines) keys)

@@ -7,7 +7,7 @@ ghost use Rattle.paper.specs.declared.Holder.the-variants.{House};
 ghost use Rattle.variables.specs.Tables.{most, scan};
 ghost use Rattle.variables.specs.Judgements.{badTable, scannedThen, behindOwn, scannedBoth, judged};
 ghost use Rattle.variables.specs.Lookups.{partOf, lookedUp, valuePart};
-ghost use Rattle.variables.specs.inner.Keys.{laidOver, passedLines, bothLines, judgedLines, KeyedAs, inGoodTables};
+ghost use Rattle.variables.specs.inner.Keys.{laidOver, passedLines, bothLines, judgedLines, inGoodTables};
 use crate::Checked;
 use crate::MOST_RECORDS;
 use crate::Match;
@@ -22,6 +22,12 @@ use records::Variable;
 
 // The most records that both tables may have.
 const MOST_LINES: usize = 2 * MOST_RECORDS;
+
+// A line for each of them.
+pub type Keys = [u32; MOST_LINES];
+
+// No line: what a judgement is lent.
+pub const NO_KEYS: Keys = [0; MOST_LINES];
 
 // What is found of the tables before anything is read.
 pub enum Judged {
@@ -46,30 +52,15 @@ pub enum Found {
     },
 }
 
-// The judgement, and the keys of the records that it found good, for look-ups: a line for each, and zeros behind them.
-pub struct Keyed {
-    pub judged: Judged,
-    pub keys: [u32; MOST_LINES],
-}
-
 fn bad_table(number: u8, holder: Holder, at: RecordPlace) -> Judged
     ensures { λ r. ⌜ r ≡ badTable number holder (at .0) ⌝ }
 {
     Judged::BadTable { number, holder, at }
 }
 
-// The lengths of both are tested before the records of either are. The keys are handed back by value, so that a refusal changes nothing
-// that was lent.
-pub fn key_tables(farm: &[u8], house: &[u8]) -> Keyed
-    ensures { λ r. ⌜ KeyedAs (now (farm .entry)) (now (house .entry)) r ⌝ }
-{
-    let mut keys = [0u32; MOST_LINES];
-    let judged = judge(farm, house, &mut keys);
-    Keyed { judged, keys }
-}
-
-fn judge(farm: &[u8], house: &[u8], keys: &mut [u32]) -> Judged
-    requires { ⌜ length (now keys) ≡ most + most ⌝ }
+// The judgement, and in `keys` the lines of the records that it found good, for look-ups; what is behind them stays. The lengths of both
+// tables are tested before the records of either are. This is no operation: the array is its caller's own, so that it is not copied.
+pub fn key_tables(farm: &[u8], house: &[u8], keys: &mut Keys) -> Judged
     ensures answer { λ r. ⌜ r ≡ judged (now (farm .entry)) (now (house .entry)) ⌝ }
     ensures keys { λ r. ⌜ now (keys .exit) ≡ laidOver (judgedLines (now (farm .entry)) (now (house .entry))) (now (keys .entry)) ⌝ }
 {
@@ -110,11 +101,11 @@ fn scan_house(own: usize, house: &[u8], keys: &mut [u32]) -> Judged
 pub fn look_up<'a>(farm: &'a [u8], house: &'a [u8], name: &[u8]) -> Found
     ensures { λ r. ⌜ r ≡ lookedUp (now (farm .entry)) (now (house .entry)) (now (name .entry)) ⌝ }
 {
-    let keyed = key_tables(farm, house);
-    let judged = keyed.judged;
-    let keys: &[u32] = &keyed.keys;
+    let mut keys = NO_KEYS;
+    let judged = key_tables(farm, house, &mut keys);
+    let lines: &[u32] = &keys;
     match judged {
-        Judged::Good(count) => as_found(find(farm, house, &keys[0..count], name)),
+        Judged::Good(count) => as_found(find(farm, house, &lines[0..count], name)),
         Judged::BadTable { number, holder, at } => Found::BadTable { number, holder, at },
     }
 }

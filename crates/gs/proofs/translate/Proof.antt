@@ -1,5 +1,5 @@
 -- `translate` meets its contract: 18 for the text, 18 and 13 for the tables, then the reading.
-use mathlib.Core.Path.{_≡_, ap, sym, _∙_}
+use mathlib.Core.Path.{_≡_, refl, ap, sym, _∙_}
 use mathlib.Core.List.{List}
 use Prim.Native.Nat.{ℕ}
 use lib.ListN.{length}
@@ -7,9 +7,10 @@ use Rattle.paper.specs.Traces.{bytes, answer, allowed}
 use Rattle.gs.specs.Translations.{readingOf, translatedBy, translatedOver, leftBy, translated, outAfter}
 use Rattle.gs.proofs.Orders.{too-long, over}
 use Rattle.gs.specs.declared.Translated.{Translated}
-use Rattle.variables.specs.Judgements.{judgedBy}
+use Rattle.variables.specs.Judgements.{judged, judgedBy}
 use Rattle.variables.specs.declared.both.Judged.{Judged}
-use Rattle.variables.proofs.KeysFind.{lines-inside, all-lines}
+use Rattle.variables.specs.declared.both.Judged.the-variants.{Good as AllGood}
+use Rattle.variables.proofs.KeysFind.{keys-long, lines-inside, all-lines}
 use borrow.Author.Needs.{needs}
 use Rattle.gs.proofs.translate.Statement.{statement}
 use Rattle.gs.proofs.translate.Tie as tie
@@ -43,7 +44,7 @@ returns c =
 -- where the tables are judged
 module _ (c : tie.After-key-tables) where
   abbrev start : tie.Start
-  start = c .before .before .before .before .before .before
+  start = c .before .before .before .before .before .before .before
 
   abbrev farm : List ℕ
   farm = start .args .farm .now
@@ -53,29 +54,39 @@ module _ (c : tie.After-key-tables) where
 
   -- an answer by what was judged is the one that is defined
   by-judgement :
-      {k : Judged} → c .key-tables .result .judged ≡ k →
+      {k : Judged} → c .key-tables .result ≡ k →
       let a = start .args in
       translatedOver (judgedBy k) (readingOf (a .text .now) farm house (a .flags .0)) (a .allowance) (length (a .out .now))
       ≡ translated (a .text .now) farm house (a .flags .0) (a .allowance) (length (a .out .now))
   by-judgement e =
       let a = start .args in
-      over (a .text .now) farm house (a .flags .0) (a .allowance) (length (a .out .now)) _ (c .before .if1 .left)
-      (sym (c .key-tables .ensures .judged) ∙ e)
+      over (a .text .now) farm house (a .flags .0) (a .allowance) (length (a .out .now)) _ (c .before .before .if1 .left)
+      (sym (c .key-tables .ensures .0) ∙ e)
+
+  -- good tables' lines are laid
+  good : {count : ℕ} → c .key-tables .result ≡ AllGood count → judged farm house ≡ AllGood count
+  good e = sym (c .key-tables .ensures .0) ∙ e
+
+slice-aggregate-lines : tie.Need-slice-aggregate-lines
+slice-aggregate-lines c =
+    let t = c .before in
+    keys-long (farm t) (house t) _ _ (t .key-tables .ensures .1) refl
 
 part-fill-end : tie.Need-part-fill-end
 part-fill-end c =
     let k = c .before in
-    lines-inside (k .before .before .before .before .before .key-tables .ensures) (k .judged2 .given .1)
+    let t = k .before .before .before in
+    lines-inside (farm t) (house t) _ (t .key-tables .ensures .1) (good t (k .judged2 .given .1))
 
 fill-requires : tie.Need-fill-requires
 fill-requires c κs =
     let k = c .before .before .before .before in
-    let t = k .before .before .before .before .before in
-    (t .before .if1 .left, c .before .cap .ensures .1, all-lines (t .key-tables .ensures) (k .judged2 .given .1))
+    let t = k .before .before .before in
+    (t .before .before .if1 .left, c .before .cap .ensures .1, all-lines (farm t) (house t) _ (t .key-tables .ensures .1) (good t (k .judged2 .given .1)))
 
 returns-2 : tie.Need-returns-2
 returns-2 c =
-    let t = c .before .before .before .before .before .before in
+    let t = c .before .before .before .before in
     let a = start t .args in
     let e = by-judgement t (c .before .judged .given .1) in
     (e, left-by (a .text .now) (a .farm .now) (a .house .now) (a .flags .0) (a .allowance) (a .out .now) _ e)
@@ -83,7 +94,7 @@ returns-2 c =
 returns-3 : tie.Need-returns-3
 returns-3 c =
     let k = c .before .before .before .before .before .before .before in
-    let t = k .before .before .before .before .before in
+    let t = k .before .before .before in
     let a = start t .args in
     let fill = c .before .before .fill .ensures in
     filled (a .text .now) (a .farm .now) (a .house .now) (a .flags .0) (a .allowance) (a .out .now) _ _ _ (fill .0) (c .before .before .before .before .cap .ensures .0)
@@ -96,6 +107,7 @@ translate-spec =
     (λ c κs. search needs)
     returns
     (λ c κs. search needs)
+    slice-aggregate-lines
     (λ c. search needs)
     (λ c. search needs)
     (λ c. search needs)

@@ -1,26 +1,17 @@
 -- How far a reference and a text come, and what a reference stands for.
 use mathlib.Core.Path.{_≡_}
-use mathlib.Core.Bool.{true, cond}
 use mathlib.Core.List.{List, _++_}
-use Prim.Native.Nat.{ℕ, _+_, _*_, _%_, _≤_}
-use lib.Dec.{eqb}
-use lib.ListN.{length, take, drop}
+use Prim.Native.Nat.{ℕ, _+_, _*_, _≤_}
+use lib.ListN.{length}
 use lib.Seq.{sets}
-use Rattle.paper.specs.Refusals.{too-big}
 use Rattle.paper.specs.Traces.{Trace, faults, gives, asks, spends, bytes, finished, refused, run}
 use Rattle.paper.specs.declared.faults.Fault.the-variants as Faults
 use Rattle.forms.specs.Calls.{decimalOf}
-use Rattle.reader.specs.Reading.{reading, no-limit}
-use Rattle.reader.specs.declared.Reading.{Reading}
-use Rattle.reader.specs.declared.Reading.the-variants.{Value, Refused}
+use Rattle.reader.specs.Reading.{reading}
+use Rattle.reader.specs.declared.Reading.the-variants.{Refused}
 use Rattle.records.specs.Kinds.{pattern}
-use Rattle.records.specs.declared.Variable.{Variable}
-use Rattle.records.specs.declared.kinds.Kind.{Kind}
 use Rattle.records.specs.declared.kinds.Kind.the-variants as Kinds
 use Rattle.variables.specs.Lookups.{partOf}
-use Rattle.variables.specs.inner.Keys.{matchAs}
-use Rattle.variables.specs.declared.Match.{Match}
-use Rattle.variables.specs.declared.Match.the-variants.{Record, Missing}
 use Rattle.gs.specs.Readings.{Expand, givesAll}
 use Rattle.references.specs.declared.Referred.{Referred}
 use Rattle.references.specs.declared.Referred.the-variants.{Number, TooBig, Unknown, Text, Integer, Macro}

@@ -4,21 +4,19 @@ use mathlib.Core.List.{List, [], _∷_, _++_, map}
 use mathlib.Core.Path.{_≡_}
 use Prim.Native.Nat.{ℕ, _+_, _*_, _/_, _%_}
 use lib.Dec.{eqb, ltb}
-use lib.ListN.{length, drop, replicate}
+use lib.ListN.{length, drop}
 use Rattle.paper.specs.declared.Holder.{Holder}
 use Rattle.paper.specs.declared.Holder.the-variants.{Farm, House}
 use Rattle.records.specs.Records.{sameName, Entry, entryAt}
 use Rattle.records.specs.Kinds.{variableAt}
 use Rattle.records.specs.inner.Keys.{keyOf}
 use Rattle.paper.specs.Refusals.{tooLong}
-use Rattle.variables.specs.Tables.{most, before, recordsOf, scan}
-use Rattle.variables.specs.Judgements as Judgements
+use Rattle.variables.specs.Tables.{before, recordsOf, scan}
 use Rattle.variables.specs.Holdings.{heldBy, Holding, nowhere, held}
 use Rattle.variables.specs.declared.Checked.{Checked}
 use Rattle.variables.specs.declared.Checked.the-variants.{Good, BadTable}
 use Rattle.variables.specs.declared.both.Found.{Found}
 use Rattle.variables.specs.declared.both.Found.the-variants.{At, Unknown}
-use Rattle.variables.specs.declared.both.Keyed.{Keyed}
 use Rattle.variables.specs.declared.Match.{Match}
 use Rattle.variables.specs.declared.Match.the-variants.{Record, Missing}
 
@@ -69,11 +67,6 @@ bothLines farm house = passedLines Farm farm (scan farm) ++ behindFarm (scan far
 -- a table that is too long is not scanned
 abbrev pub judgedLines : List ℕ → List ℕ → List ℕ
 judgedLines farm house = cond (tooLong farm) [] (cond (tooLong house) [] (bothLines farm house))
-
--- the judgement with these lines, and zeros behind them
-pub record KeyedAs (farm house : List ℕ) (r : Keyed) : Type 0 where
-  pub judged : r .judged ≡ Judgements.judged farm house
-  pub keys : r .keys ≡ laidOver (judgedLines farm house) (replicate (most + most) 0)
 
 -- the table that a line says, and the record there
 abbrev pub holderOf : ℕ → Holder

@@ -1,8 +1,7 @@
 -- `is_named` meets its contract: names are compared only where the keys are equal.
-use mathlib.Core.Path.{ap, _∙_}
 use borrow.Author.Needs.{needs}
 use borrow.Author.Tests.{eq-eqb, ne-eqb}
-use Rattle.records.specs.Records.{sameName, entryAt}
+use Rattle.records.specs.Records.{entryAt}
 use Rattle.variables.specs.inner.Keys.{recordBy}
 use Rattle.variables.proofs.keys.is_named.Statement.{statement}
 use Rattle.variables.proofs.keys.is_named.Tie as tie

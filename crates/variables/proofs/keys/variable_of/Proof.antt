@@ -1,9 +1,5 @@
 -- `variable_of` meets its contract: the record is the one that the line says.
-use mathlib.Core.Path.{ap, _∙_}
 use borrow.Author.Needs.{needs}
-use Rattle.records.specs.Records.{entryAt}
-use Rattle.records.specs.Kinds.{variableAt}
-use Rattle.variables.specs.Holdings.{heldBy}
 use Rattle.variables.specs.inner.Keys.{recordBy}
 use Rattle.variables.proofs.keys.variable_of.Statement.{statement}
 use Rattle.variables.proofs.keys.variable_of.Tie as tie
