@@ -223,7 +223,7 @@ struct nos_checked nos_check_table(const uint8_t *table, size_t length);
  * A name means the farm's record that has an equal name, whatever its kind; where there is none, the house's; else it is unknown. So
  * an equal name in both is no fault: the farm's hides the house's. Within one table it still is. A macro of either table may use
  * names of either: they are looked up as those of your text are. One look-up is taken out of the allowance for a name, wherever it
- * ends, and none for an unknown one. The limits hold for each table: 65,535 bytes, 256 records. A table with no variables has the
+ * ends, and none for one that is refused by 10, 11 or 17. The limits hold for each table: 65,535 bytes, 256 records. A table with no variables has the
  * length 0, and its pointer may be NULL.
  *
  * Both tables are judged before anything is read, even where nothing is named, or where the farm's has the name. The first of these

@@ -1,6 +1,6 @@
 -- What `check_table`, `look_up` and `look_up_value` promise is kept.
 use mathlib.Core.Path.{_≡_, refl, ap, sym, subst, _∙_}
-use mathlib.Core.Bool.{true, false}
+use mathlib.Core.Bool.{true, false, true≢false}
 use mathlib.Core.List.{List, [], List·Memᴰ, Memᴰ·cast}
 use mathlib.Core.Logic.{_↔_}
 use Prim.Native.Nat.{ℕ, _+_, _≤_, _<_}
@@ -29,11 +29,11 @@ use Rattle.variables.specs.declared.both.Judged.the-variants.{Good as AllGood, 
 use Rattle.variables.proofs.Bounds.{checked-bounded, over-length-exactly, good-table, bad-number, looked-up-bounded}
 use Rattle.variables.proofs.Format.{format}
 use Rattle.variables.proofs.Good.{Laid, laid, wholes}
-use Rattle.variables.proofs.Judging.{both-good, judged-so, both-are}
+use Rattle.variables.proofs.Judging.{both-good, judged-so, both-are, refused}
 use Rattle.variables.proofs.Own.{Where, in-farm as found-in-farm, in-house as found-in-house, in-neither, sought-where}
 use Rattle.variables.proofs.Unique.{found, unique, missed, unmet, same-sought, own}
 use Rattle.promises.specs.Accepted.{isGood, isKnown}
-use Rattle.promises.specs.Lookups.{OneCheck, OneFound, OnePart, CheckAccepts, LookUpAccepts, CheckRefusals, LookUpRefusals, OverLength, Records, Good, Judges, Names, Finds, Hides, Misses, Inside, Part}
+use Rattle.promises.specs.Lookups.{OneCheck, OneFound, OnePart, CheckAccepts, LookUpAccepts, CheckRefusals, LookUpRefusals, OverLength, Records, Good, Judges, HasIt, Known, Names, Finds, Hides, Misses, Inside, Part}
 
 pub one-check : OneCheck
 one-check table r r′ c c′ = c .answer ∙ sym (c′ .answer)
@@ -73,6 +73,13 @@ check-accepts table r c = check-accepts-by table r (sym (c .answer))
 
 pub records : Good
 records table r c = records-of table r (sym (c .answer))
+
+-- good tables are judged so
+both-so : (farm house : List ℕ) → checkNumber (checked farm) ≡ 0 → checkNumber (checked house) ≡ 0 → (n : ℕ) × (judged farm house ≡ AllGood n)
+both-so farm house f h =
+    let g = good-table farm f in
+    let k = good-table house h in
+    (g .0 + k .0, judged-so farm house (both-good (laid farm (g .1) .short) (laid house (k .1) .short) (g .0) (g .1) (k .0) (k .1)))
 
 -- the two tables are counted in two numbers
 told-apart : (h h′ : Holder) → countedIn h ≡ countedIn h′ → h ≡ h′
@@ -143,13 +150,13 @@ module _ (farm house name : List ℕ) where
     inside-in (in-neither n m) holder z q = omega arith
 
     hidden-in : {h : Holding} → Where farm house name h → (e : Entry) → List·Memᴰ e (recordsOf farm) → sameName (e .name) name ≡ true
-        → (foundCounted (F h) ≡ in-farm) × (foundPlace (F h) ≡ e .place) × (foundKind (F h) ≡ e .kind)
+        → (foundNumber (F h) ≡ 0) × (foundCounted (F h) ≡ in-farm) × (foundPlace (F h) ≡ e .place) × (foundKind (F h) ≡ e .kind)
     hidden-in (found-in-farm f p) e m same =
         let l = laid-in Farm .1 in
         let one : present f ≡ present e = sym p ∙ sym (same-sought (recordsOf farm) (e .name) name same) ∙ own l m in
         let is : f ≡ e = cc in
         let w = wholes l m in
-        (refl, ap (λ (x : Entry). x .place) is, ap (λ (x : Entry). kindNumber (kindOf (x .kind))) is ∙ kind-number (e .kind) (w .kind))
+        (refl, refl, ap (λ (x : Entry). x .place) is, ap (λ (x : Entry). kindNumber (kindOf (x .kind))) is ∙ kind-number (e .kind) (w .kind))
     hidden-in (found-in-house f n p) e m same =
         clash (cc (sym n ∙ sym (same-sought (recordsOf farm) (e .name) name same) ∙ own (laid-in Farm .1) m))
     hidden-in (in-neither n k) e m same =
@@ -187,21 +194,13 @@ module _ (farm house name : List ℕ) where
       (λ z. (ap checkNumber (g .farm-good), ap checkNumber (g .house-good), m .0 z), λ h. m .1 (h .2))
   missed-by (OneBad number holder at) e = (
     λ z. absurd (omega (arith, numbered number holder at e)),
-    λ (f, h, none).
-        let g = good-table farm f in
-        let k = good-table house h in
-        clash (cc (sym e ∙ judged-so farm house (both-good (laid farm (g .1) .short) (laid house (k .1) .short) (g .0) (g .1) (k .0) (k .1)))),
+    λ (f, h, none). clash (cc (sym e ∙ both-so farm house f h .1)),
   )
 
   inside-by : (d : Judged) → judged farm house ≡ d → (holder : Holder) → foundNumber (G d) ≡ 0 → foundCounted (G d) ≡ countedIn holder
       → foundStart (G d) + foundLength (G d) ≤ length (heldBy holder farm house)
   inside-by (AllGood n) e holder z q = inside-in n e (sought-where farm house name) holder z q
   inside-by (OneBad number holder at) e h z q = omega arith
-
-  hidden-by : (d : Judged) → judged farm house ≡ d → (e : Entry) → foundNumber (G d) ≡ 0 → List·Memᴰ e (recordsOf farm) → sameName (e .name) name ≡ true
-      → (foundCounted (G d) ≡ in-farm) × (foundPlace (G d) ≡ e .place) × (foundKind (G d) ≡ e .kind)
-  hidden-by (AllGood n) q e z m same = hidden-in n q (sought-where farm house name) e m same
-  hidden-by (OneBad number holder at) q e z m same = absurd (omega (arith, numbered number holder at q))
 
   defined : G (judged farm house) ≡ lookedUp farm house name
   unfolding lookedUp
@@ -217,18 +216,50 @@ look-up-accepts farm house name r c =
 
 pub judges : Judges
 judges farm house name r number holder place c e =
-    let is : r ≡ foundBy farm house name (badTable number holder place) = sym (judged-as farm house name r (c .answer)) ∙ ap (foundBy farm house name) e in
+    let refused-so = refused [] farm house number holder place e .1 in
+    let is : r ≡ foundBy farm house name (badTable number holder place) =
+    sym (judged-as farm house name r (c .answer)) ∙ ap (foundBy farm house name) refused-so in
     (ap foundNumber is, ap foundCounted is, ap foundPlace is)
 
 pub finds : Finds
 finds farm house name r c =
     subst (λ r. foundNumber r ≡ 0 → Names farm house name r) (judged-as farm house name r (c .answer)) (names-by farm house name (judged farm house) refl)
 
+pub known : Known
+known farm house name r c =
+    subst (λ r. (foundNumber r ≡ 0) ↔ ((checkNumber (checked farm) ≡ 0) × (checkNumber (checked house) ≡ 0) × HasIt farm house name))
+    (judged-as farm house name r (c .answer)) (go (judged farm house) refl)
+  where
+    has : {d : Found} → Names farm house name d → HasIt farm house name
+    has n = record { holder = n .holder; entry = n .entry; member = n .member; named = n .named }
+
+    -- a record that has the name is found
+    found-so : {n : ℕ} → judged farm house ≡ AllGood n → HasIt farm house name → {h : Holding} → Where farm house name h → foundNumber (foundAs farm house h) ≡ 0
+    found-so e i (found-in-farm x p) = refl
+    found-so e i (found-in-house x n p) = refl
+    found-so e i (in-neither n m) =
+        let none : (holder : Holder) (x : Entry) → List·Memᴰ x (recordsOf (heldBy holder farm house)) → sameName (x .name) name ≡ false =
+        missed-in farm house name _ e (in-neither n m) .0 refl in
+        absurd (true≢false (sym (i .named) ∙ none (i .holder) (i .entry) (i .member)))
+
+    go : (d : Judged) → judged farm house ≡ d
+        → (foundNumber (foundBy farm house name d) ≡ 0) ↔ ((checkNumber (checked farm) ≡ 0) × (checkNumber (checked house) ≡ 0) × HasIt farm house name)
+    go (AllGood n) e =
+        let g = both-are farm house e in (
+          λ z. (ap checkNumber (g .farm-good), ap checkNumber (g .house-good), has (names-by farm house name (AllGood n) e z)),
+          λ (f, h, i). found-so e i (sought-where farm house name),
+        )
+    go (OneBad number holder at) e = (
+      λ z. absurd (omega (arith, numbered farm house name number holder at e)),
+      λ (f, h, i). clash (cc (sym e ∙ both-so farm house f h .1)),
+    )
+
 pub hides : Hides
-hides farm house name r e c =
-    subst (λ r. foundNumber r ≡ 0 → List·Memᴰ e (recordsOf farm) → sameName (e .name) name ≡ true
-    → (foundCounted r ≡ in-farm) × (foundPlace r ≡ e .place) × (foundKind r ≡ e .kind))
-    (judged-as farm house name r (c .answer)) (λ z m same. hidden-by farm house name (judged farm house) refl e z m same)
+hides farm house name r e c f h m same =
+    let good = both-so farm house f h in
+    let is : foundBy farm house name (AllGood (good .0)) ≡ r = ap (foundBy farm house name) (sym (good .1)) ∙ judged-as farm house name r (c .answer) in
+    subst (λ r. (foundNumber r ≡ 0) × (foundCounted r ≡ in-farm) × (foundPlace r ≡ e .place) × (foundKind r ≡ e .kind)) is
+    (hidden-in farm house name (good .0) (good .1) (sought-where farm house name) e m same)
 
 pub misses : Misses
 misses farm house name r c =

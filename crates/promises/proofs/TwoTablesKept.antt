@@ -7,11 +7,16 @@ use lib.ListN.{length}
 use Rattle.paper.specs.Refusals as Refusals
 use Rattle.paper.specs.Refusals.{over-length, longest}
 use Rattle.paper.specs.Traces.{Trace, lookUps}
+use Rattle.paper.specs.declared.Holder.{Holder}
 use Rattle.paper.specs.declared.Holder.the-variants.{Farm, House}
 use Rattle.paper.proofs.Choice.{clash}
 use Rattle.variables.specs.Tables.{Sought, absent, present, entries, sought, badTable, checked, checkNumber, recordsOf, soughtIn}
 use Rattle.variables.specs.Holdings.{heldIn, orElse}
-use Rattle.variables.specs.Names.{Meaning, inReading, namesOf}
+use Rattle.records.specs.Records.{Entry}
+use Rattle.records.specs.Kinds.{pattern}
+use Rattle.records.specs.declared.kinds.Kind.{Kind}
+use Rattle.records.specs.declared.kinds.Kind.the-variants.{Text, Integer, Macro}
+use Rattle.variables.specs.Names.{Meaning, valueAs, meant, inReading, namesOf}
 use Rattle.variables.specs.Judgements as Judgements
 use Rattle.variables.specs.Judgements.{good, bad-table, judgement, judgedBy}
 use Rattle.variables.specs.declared.both.Judged.{Judged}
@@ -21,10 +26,10 @@ use Rattle.variables.proofs.Good.{laid}
 use Rattle.variables.proofs.Judging.{Case, long-farm, long-house, bad-farm, bad-house, both-good, judged-case, judged-so, within, over-exactly, read, refused}
 use Rattle.variables.proofs.Unique.{own, same-sought, unmet}
 use Rattle.forms.specs.Calls.{decimalOf}
-use Rattle.gs.specs.Readings.{givesAll, nameGives, expands, readAt}
+use Rattle.gs.specs.Readings.{Expand, givesAll, nameGives, expands, readAt}
 use Rattle.expressions.specs.Trees.{wholeTree}
 use Rattle.expressions.specs.Evaluations.{nameSteps, evaluation, result}
-use Rattle.promises.specs.TwoTables.{Ordered, InOrder, FarmFirst, alone, meantIn, HouseNext, EmptyFarm, MacroOfEither, OneLookUp}
+use Rattle.promises.specs.TwoTables.{Ordered, InOrder, FarmFirst, alone, meantIn, HouseNext, EmptyFarm, ByNames, Held, MacroOfEither, OneLookUp, NoLookUp}
 
 -- the place of a bad table's refusal
 abbrev judgedPlace : Judged → ℕ
@@ -162,10 +167,19 @@ empty-farm house =
     all : namesOf [] house ≡ meantIn house
     all = λ i name. names name i
 
+pub read-by-names : ByNames
+read-by-names farm house = record { translations = λ text flags. refl; evaluations = λ text. refl; values = λ text. refl }
+
+-- what a name means that one of the tables holds
+meaning : (farm house name : List ℕ) (holder : Holder) (e : Entry) (kind : Kind) → Held farm house name holder e kind
+    → namesOf farm house name ≡ valueAs kind (e .value)
+unfolding meant
+meaning farm house name holder e kind h = ap inReading (h .0) ∙ ap (λ k. valueAs k (e .value)) (h .1)
+
 pub macro-of-either : MacroOfEither
 unfolding nameGives expands
-macro-of-either farm house name value levels place rest e =
-    ap (λ m. nameGives (expands (namesOf farm house) (suc levels)) m name place rest) e
+macro-of-either farm house name holder e levels place rest h =
+    ap (λ m. nameGives (expands (namesOf farm house) (suc levels)) m name place rest) (meaning farm house name holder e Macro h)
 
 -- bytes that are given take no look-up
 given-free : (bytes : List ℕ) (rest : Trace) → lookUps (givesAll bytes rest) ≡ lookUps rest
@@ -173,17 +187,27 @@ given-free [] rest = refl
 given-free (b ∷ bs) rest = given-free bs rest
 
 pub one-look-up : OneLookUp
-unfolding nameGives
-one-look-up farm house name =
+unfolding nameGives expands
+one-look-up farm house name holder e =
+    let gives : (kind : Kind) (expand : Expand) (place : ℕ) (rest : Trace) → Held farm house name holder e kind
+    → lookUps (nameGives expand (namesOf farm house name) name place rest) ≡ lookUps (nameGives expand (valueAs kind (e .value)) name place rest) =
+    λ kind expand place rest h. ap (λ m. lookUps (nameGives expand m name place rest)) (meaning farm house name holder e kind h) in
+    let steps : (kind : Kind) (place : ℕ) (rest : Trace) → Held farm house name holder e kind
+    → lookUps (nameSteps (namesOf farm house name) place rest) ≡ lookUps (nameSteps (valueAs kind (e .value)) place rest) =
+    λ kind place rest h. ap (λ m. lookUps (nameSteps m place rest)) (meaning farm house name holder e kind h) in
     record {
-      string = λ bytes expand place rest e.
-          ap (λ m. lookUps (nameGives expand m name place rest)) e ∙ ap suc (given-free bytes rest);
-      integer = λ value expand place rest e.
-          ap (λ m. lookUps (nameGives expand m name place rest)) e ∙ ap suc (given-free (decimalOf value) rest);
-      macro = λ value levels place rest e. ap lookUps (macro-of-either farm house name value levels place rest e);
-      in-expression = λ value place rest e. ap (λ m. lookUps (nameSteps m place rest)) e;
-      none = λ expand place rest e. (
-        ap (λ m. lookUps (nameGives expand m name place rest)) e,
-        ap (λ m. lookUps (nameSteps m place rest)) e,
-      );
+      string = λ expand place rest h. gives Text expand place rest h ∙ ap suc (given-free (e .value) rest);
+      integer = λ expand place rest h. gives Integer expand place rest h ∙ ap suc (given-free (decimalOf (pattern (e .value))) rest);
+      macro = λ levels place rest h. ap lookUps (macro-of-either farm house name holder e levels place rest h);
+      in-expression = λ place rest h. steps Integer place rest h;
+      too-deep = λ place rest h. gives Macro (expands (namesOf farm house) 0) place rest h;
+      string-in-expression = λ place rest h. steps Text place rest h;
+      macro-in-expression = λ place rest h. steps Macro place rest h;
     }
+
+pub no-look-up : NoLookUp
+unfolding nameGives
+no-look-up farm house name expand place rest h = (
+  ap (λ s. lookUps (nameGives expand (inReading s) name place rest)) h,
+  ap (λ s. lookUps (nameSteps (inReading s) place rest)) h,
+)

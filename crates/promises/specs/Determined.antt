@@ -1,5 +1,5 @@
--- That the public functions beside the six operations have one answer too, each by its own contract as a caller learns it. The six have
--- it in their pages. `filter`'s `run` has it not: its contract leaves open what was read.
+-- That the public functions beside the six operations and `look_up_value` have one answer too, each by its own contract as a caller learns it.
+-- Those have it in their pages. `filter`'s `run` has it not: its contract leaves open what was read.
 use mathlib.Core.Path.{_≡_}
 use mathlib.Core.List.{List}
 use Prim.Native.Nat.{ℕ}

@@ -11,7 +11,7 @@ use Rattle.paper.specs.Refusals.{unknown-name, over-length, longest}
 use Rattle.records.specs.Records.{Entry, recordBytes, sameName}
 use Rattle.variables.specs.Tables.{most, sound, checked, checkNumber, checkCount, checkNumbers, recordsOf}
 use Rattle.variables.specs.Holdings.{heldBy}
-use Rattle.variables.specs.Judgements.{badTable, judged}
+use Rattle.variables.specs.Judgements.{bad-table, judgement}
 use Rattle.variables.specs.Lookups.{foundNumber, foundCounted, foundPlace, foundKind, foundStart, foundLength, lookUpNumbers}
 use Rattle.variables.specs.declared.Checked.{Checked}
 use Rattle.variables.specs.declared.both.Found.{Found}
@@ -58,12 +58,24 @@ pub record Records (table : List ℕ) (r : Checked) : Type 0 where
 abbrev pub Good : Type 0
 Good = (table : List ℕ) (r : Checked) → Checks table r → checkNumber r ≡ 0 → Records table r
 
--- tables that are not good are refused as they are judged, and the answer says which, and where in it
+-- tables that are not good are refused as they are judged, with no text before them, and the answer says which, and where in it
 abbrev pub Judges : Type 0
 Judges =
     (farm house name : List ℕ) (r : Found) (number : ℕ) (holder : Holder) (place : ℕ) → LooksUp farm house name r
-    → judged farm house ≡ badTable number holder place
+    → judgement [] farm house ≡ bad-table number holder place
     → (foundNumber r ≡ number) × (foundCounted r ≡ countedIn holder) × (foundPlace r ≡ place)
+
+-- a name is known exactly where both tables are good and a record of either has it: an equal name in both is no fault
+pub record HasIt (farm house name : List ℕ) : Type 0 where
+  pub holder : Holder
+  pub entry : Entry
+  pub member : List·Memᴰ entry (recordsOf (heldBy holder farm house))
+  pub named : sameName (entry .name) name ≡ true
+
+abbrev pub Known : Type 0
+Known =
+    (farm house name : List ℕ) (r : Found) → LooksUp farm house name r
+    → (foundNumber r ≡ 0) ↔ ((checkNumber (checked farm) ≡ 0) × (checkNumber (checked house) ≡ 0) × HasIt farm house name)
 
 -- what was found is a record with that name of the table that the answer says: its place, its kind, and the part of that table that is its
 -- value
@@ -83,9 +95,9 @@ Finds = (farm house name : List ℕ) (r : Found) → LooksUp farm house name r �
 -- a record of the farm's table is found before any of the house's, whatever their kinds are
 abbrev pub Hides : Type 0
 Hides =
-    (farm house name : List ℕ) (r : Found) (e : Entry) → LooksUp farm house name r → foundNumber r ≡ 0
-    → List·Memᴰ e (recordsOf farm) → sameName (e .name) name ≡ true
-    → (foundCounted r ≡ in-farm) × (foundPlace r ≡ e .place) × (foundKind r ≡ e .kind)
+    (farm house name : List ℕ) (r : Found) (e : Entry) → LooksUp farm house name r
+    → checkNumber (checked farm) ≡ 0 → checkNumber (checked house) ≡ 0 → List·Memᴰ e (recordsOf farm) → sameName (e .name) name ≡ true
+    → (foundNumber r ≡ 0) × (foundCounted r ≡ in-farm) × (foundPlace r ≡ e .place) × (foundKind r ≡ e .kind)
 
 -- a name is unknown exactly where both tables are good and no record of either has it
 abbrev pub Misses : Type 0

@@ -34,8 +34,10 @@ pub record Promises : Type 0 where
   pub farm-first : TwoTables.FarmFirst
   pub house-next : TwoTables.HouseNext
   pub empty-farm : TwoTables.EmptyFarm
+  pub read-by-names : TwoTables.ByNames
   pub macro-of-either : TwoTables.MacroOfEither
   pub one-look-up : TwoTables.OneLookUp
+  pub no-look-up : TwoTables.NoLookUp
   -- `check_table`, `look_up` and `look_up_value`
   pub check-tied : Ties.CheckTable
   pub check-one-answer : Lookups.OneCheck
@@ -48,6 +50,7 @@ pub record Promises : Type 0 where
   pub look-up-accepts : Lookups.LookUpAccepts
   pub look-up-refusals : Lookups.LookUpRefusals
   pub look-up-judges : Lookups.Judges
+  pub look-up-known : Lookups.Known
   pub look-up-finds : Lookups.Finds
   pub look-up-hides : Lookups.Hides
   pub look-up-misses : Lookups.Misses

@@ -9,10 +9,15 @@ use lib.ListN.{length}
 use Rattle.paper.specs.Refusals as Refusals
 use Rattle.paper.specs.Refusals.{over-length, longest}
 use Rattle.paper.specs.Traces.{Trace, spends, enters, lookUps}
+use Rattle.paper.specs.declared.Holder.{Holder}
 use Rattle.paper.specs.declared.Holder.the-variants.{Farm, House}
 use Rattle.records.specs.Records.{Entry, sameName}
 use Rattle.variables.specs.Tables.{Sought, absent, present, badTable, checked, checkNumber, recordsOf, soughtIn}
-use Rattle.variables.specs.Names.{Meaning, unknown, string-of, integer-of, macro-of, meant, namesOf}
+use Rattle.records.specs.Kinds.{kindOf}
+use Rattle.records.specs.declared.kinds.Kind.{Kind}
+use Rattle.records.specs.declared.kinds.Kind.the-variants.{Text, Integer, Macro}
+use Rattle.variables.specs.Holdings.{nowhere, held, soughtInBoth}
+use Rattle.variables.specs.Names.{Meaning, unknown, meant, namesOf}
 use Rattle.variables.specs.Judgements.{good, long-text, bad-table, judgement}
 use Rattle.gs.specs.Readings.{Expand, nameGives, expands, wholeText, readAt}
 use Rattle.gs.specs.Translations.{readingOf}
@@ -75,28 +80,52 @@ pub record HouseAlone (house : List ℕ) : Type 0 where
 abbrev pub EmptyFarm : Type 0
 EmptyFarm = (house : List ℕ) → HouseAlone house
 
+-- the readings of a text and of an expression ask what names mean in the two tables, and nothing else of them
+pub record ReadByNames (farm house : List ℕ) : Type 0 where
+  pub translations : (text : List ℕ) (flags : ℕ) → readingOf text farm house flags ≡ readAt (namesOf farm house) 0 text flags
+  pub evaluations : (text : List ℕ) → Expressions.readingOf text farm house ≡ evaluation (namesOf farm house) (wholeTree text)
+  pub values : (text : List ℕ) → Expressions.valueIn text farm house ≡ result (namesOf farm house) (wholeTree text)
+
+abbrev pub ByNames : Type 0
+ByNames = (farm house : List ℕ) → ReadByNames farm house
+
+-- a name that one of the tables holds: the record that it means
+abbrev pub Held : List ℕ → List ℕ → List ℕ → Holder → Entry → Kind → Type 0
+Held farm house name holder e kind = (soughtInBoth farm house name ≡ held holder e) × (kindOf (e .kind) ≡ kind)
+
 -- the value of a macro, whichever table holds it, is read over both
 abbrev pub MacroOfEither : Type 0
 MacroOfEither =
-    (farm house name value : List ℕ) (levels place : ℕ) (rest : Trace) → let names = namesOf farm house in
-    names name ≡ macro-of value
+    (farm house name : List ℕ) (holder : Holder) (e : Entry) (levels place : ℕ) (rest : Trace) → let names = namesOf farm house in
+    Held farm house name holder e Macro
     → nameGives (expands names (suc levels)) (names name) name place rest
-    ≡ spends place (enters (record { name = name; place = place }) (wholeText names (expands names levels) value 0) rest)
+    ≡ spends place (enters (record { name = name; place = place }) (wholeText names (expands names levels) (e .value) 0) rest)
 
--- a name that is known spends one look-up, whichever table it ends in, and a macro beside it what its value takes; an unknown one spends none
-pub record SpendsOnce (farm house name : List ℕ) : Type 0 where
-  pub string : (bytes : List ℕ) (expand : Expand) (place : ℕ) (rest : Trace) → namesOf farm house name ≡ string-of bytes
+-- a name that is known spends one look-up, whichever table holds it, and a macro beside it what its value takes
+pub record SpendsOnce (farm house name : List ℕ) (holder : Holder) (e : Entry) : Type 0 where
+  pub string : (expand : Expand) (place : ℕ) (rest : Trace) → Held farm house name holder e Text
       → lookUps (nameGives expand (namesOf farm house name) name place rest) ≡ suc (lookUps rest)
-  pub integer : (value : ℕ) (expand : Expand) (place : ℕ) (rest : Trace) → namesOf farm house name ≡ integer-of value
+  pub integer : (expand : Expand) (place : ℕ) (rest : Trace) → Held farm house name holder e Integer
       → lookUps (nameGives expand (namesOf farm house name) name place rest) ≡ suc (lookUps rest)
-  pub macro : (value : List ℕ) (levels place : ℕ) (rest : Trace) → let names = namesOf farm house in
-      names name ≡ macro-of value
+  pub macro : (levels place : ℕ) (rest : Trace) → let names = namesOf farm house in
+      Held farm house name holder e Macro
       → lookUps (nameGives (expands names (suc levels)) (names name) name place rest)
-      ≡ suc (lookUps (enters (record { name = name; place = place }) (wholeText names (expands names levels) value 0) rest))
-  pub in-expression : (value place : ℕ) (rest : Trace) → namesOf farm house name ≡ integer-of value
+      ≡ suc (lookUps (enters (record { name = name; place = place }) (wholeText names (expands names levels) (e .value) 0) rest))
+  pub in-expression : (place : ℕ) (rest : Trace) → Held farm house name holder e Integer
       → lookUps (nameSteps (namesOf farm house name) place rest) ≡ suc (lookUps rest)
-  pub none : (expand : Expand) (place : ℕ) (rest : Trace) → namesOf farm house name ≡ unknown
-      → (lookUps (nameGives expand (namesOf farm house name) name place rest) ≡ 0) × (lookUps (nameSteps (namesOf farm house name) place rest) ≡ 0)
+  -- a macro in a text of depth 16 is refused, and so is one in an expression, as a string is there: neither spends one
+  pub too-deep : (place : ℕ) (rest : Trace) → Held farm house name holder e Macro
+      → lookUps (nameGives (expands (namesOf farm house) 0) (namesOf farm house name) name place rest) ≡ 0
+  pub string-in-expression : (place : ℕ) (rest : Trace) → Held farm house name holder e Text
+      → lookUps (nameSteps (namesOf farm house name) place rest) ≡ 0
+  pub macro-in-expression : (place : ℕ) (rest : Trace) → Held farm house name holder e Macro
+      → lookUps (nameSteps (namesOf farm house name) place rest) ≡ 0
 
 abbrev pub OneLookUp : Type 0
-OneLookUp = (farm house name : List ℕ) → SpendsOnce farm house name
+OneLookUp = (farm house name : List ℕ) (holder : Holder) (e : Entry) → SpendsOnce farm house name holder e
+
+-- and an unknown one spends none
+abbrev pub NoLookUp : Type 0
+NoLookUp =
+    (farm house name : List ℕ) (expand : Expand) (place : ℕ) (rest : Trace) → soughtInBoth farm house name ≡ nowhere
+    → (lookUps (nameGives expand (namesOf farm house name) name place rest) ≡ 0) × (lookUps (nameSteps (namesOf farm house name) place rest) ≡ 0)
