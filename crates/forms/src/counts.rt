@@ -1,8 +1,8 @@
 // How many digits a number has.
 ghost use mathlib.Core.Path.{_≡_};
-ghost use mathlib.Core.Bool.{cond};
 ghost use Prim.Native.Nat.{_≤_};
 ghost use Rattle.forms.specs.Digits.{digitCount};
+use paper::one_if;
 
 // The decimal digits of n: one, and one more for each power of ten that n reaches. There is no jump here that the processor could
 // guess wrong.
@@ -13,13 +13,4 @@ pub fn count_decimal(n: u32) -> usize
     let millions = one_if(10000 <= n) + one_if(100000 <= n) + one_if(1000000 <= n);
     let billions = one_if(10000000 <= n) + one_if(100000000 <= n) + one_if(1000000000 <= n);
     1 + thousands + millions + billions
-}
-
-pub fn one_if(present: bool) -> usize
-    ensures { λ r. ⌜ (r ≡ cond present 1 0) × (r ≤ 1) ⌝ }
-{
-    if present {
-        return 1;
-    }
-    0
 }

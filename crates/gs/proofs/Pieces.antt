@@ -3,16 +3,16 @@ use mathlib.Core.Path.{_≡_, refl, ap, sym, _∙_}
 use mathlib.Core.Bool.{Bool, true, false, cond}
 use mathlib.Core.List.{List, [], _∷_, _++_}
 use Prim.Native.Nat.{ℕ, suc, _+_, _≤_}
-use native.Mathlib.Nat.{add-suc, suc-add, add-zero}
 use native.Mathlib.Omega.{arith}
 use lib.Dec.{leb, eqb}
 use borrow.Author.Tests.{le-leb}
-use lib.ListN.{length, set, length-append}
+use lib.ListN.{length, length-append}
 use lib.Seq.{sets, length-sets}
 use Rattle.paper.specs.Refusals.{too-big}
 use Rattle.paper.specs.Traces.{Trace, faults, gives, asks, spends, bytes, run}
 use Rattle.paper.specs.declared.faults.Fault.the-variants as Faults
 use Rattle.paper.proofs.Choice.{either}
+use Rattle.paper.proofs.Stores.{sets-append}
 use Rattle.reader.specs.Reading.{reading, no-limit}
 use Rattle.reader.specs.declared.Reading.{Reading}
 use Rattle.reader.specs.declared.Reading.the-variants.{Value, Refused}
@@ -49,12 +49,6 @@ pub passes-all : (bs name : List ℕ) (place left : ℕ) → length bs ≤ 255
     → Passes (λ rest. asks name (spends place (givesAll bs rest))) (suc left) left bs
 passes-all bs name place left small =
     record { runs = λ rest. run-all rest bs left; gives = λ rest. bytes-all rest bs; small = omega arith }
-
-sets-append : (xs ys l : List ℕ) (i : ℕ) → sets l i (xs ++ ys) ≡ sets (sets l i xs) (i + length xs) ys
-sets-append [] ys l i = ap (λ n. sets l n ys) (sym (add-zero i))
-sets-append (x ∷ xs) ys l i =
-    sets-append xs ys (set l i x) (suc i)
-    ∙ ap (λ n. sets (sets (set l i x) (suc i) xs) n ys) (suc-add i (length xs) ∙ sym (add-suc i (length xs)))
 
 pub laid-none : (out : List ℕ) (to : ℕ) → Laid out to [] out
 laid-none out to = record { long = refl; fits = λ _. refl }

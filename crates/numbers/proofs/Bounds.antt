@@ -1,25 +1,21 @@
--- How many digits a form writes: enough for every number of its width, and few, so that every answer's numbers are small.
+-- How many digits a form writes: enough for every number of its width, and few, so that every string is short.
 use mathlib.Core.Path.{_≡_, refl}
 use mathlib.Core.Bool.{Bool, true, false, cond, and-eq-true-iff}
 use mathlib.Core.List.{[], _∷_}
 use Prim.Native.Nat.{ℕ, _+_, _-_, _*_, _/_, _^_, _≤_, _<_}
 use native.Mathlib.Nat.{mod-lt, pow-le-pow-left, pow-le-pow-right}
 use native.Mathlib.Omega.{arith}
-use lib.Dec.{ltb}
 use lib.ListN.{length}
 use lib.Pow.{pow-pos}
 use borrow.Author.Tests.{leb-true}
-use Rattle.paper.specs.Answers.{Answer}
-use Rattle.paper.specs.Layings.{roomFor, laying}
 use Rattle.paper.proofs.Choice.{either}
 use Rattle.forms.specs.Digits.{enough, digitCount}
 use Rattle.forms.specs.Strings.{radix, bits, largest, Form, used, negative, magnitude, count, string}
-use Rattle.forms.specs.Calls.{decimal, Described, unknown, known, described}
+use Rattle.forms.specs.Calls.{decimal}
 use Rattle.forms.specs.inner.Steps.{numberIn}
 use Rattle.forms.specs.declared.forms.Width.{Width}
 use Rattle.forms.specs.declared.forms.Width.the-variants.{Nibble, Byte, TwoBytes, ThreeBytes, Word}
 use Rattle.forms.proofs.Laws.{radix-range, bits-range, below-power, enough-from, enough-holds, enough-least}
-use Rattle.numbers.specs.Conversions.{answerIn, answerOf}
 use Rattle.numbers.specs.inner.Steps.{spreadOf}
 use Rattle.numbers.proofs.Laws.{string-length}
 
@@ -129,25 +125,3 @@ decimal-short signed terminated w value =
       characters form value,
       enough-least 10 n n 1 10 (omega arith) (omega (arith, magnitude-word form value)) (omega arith),
     )
-
--- an answer whose numbers are small
-pub record Small (a : Answer) : Type 0 where
-  pub number : a .number ≤ 255
-  pub place : a .place ≤ 43
-  pub need : a .need ≤ 44
-
-laying-small : (form : Form) (value room : ℕ) → Small (laying (string form value) (form .terminated) room)
-unfolding laying
-laying-small form value room =
-    let needs : roomFor (string form value) (form .terminated) ≤ 44 = omega (arith, string-short form value, one-long (form .terminated) 0) in
-    either Small (ltb room (roomFor (string form value) (form .terminated)))
-    (λ _. record { number = omega arith; place = omega arith; need = needs })
-    (λ _. record { number = omega arith; place = string-short form value; need = needs })
-
-answer-in-small : (d : Described) (value room : ℕ) → Small (answerIn d value room)
-answer-in-small unknown value room = record { number = omega arith; place = omega arith; need = omega arith }
-answer-in-small (known form) value room = laying-small form value room
-
-pub answer-small : (call value room : ℕ) → Small (answerOf call value room)
-unfolding answerOf
-answer-small call value room = answer-in-small (described call) value room

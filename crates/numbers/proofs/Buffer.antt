@@ -1,12 +1,11 @@
 -- A buffer that is written from the right: what stands up to a place is old, and what is behind it is new.
-use mathlib.Core.Path.{_≡_, refl, ap, sym, _∙_}
-use mathlib.Core.Bool.{Bool, true, false, cond}
-use mathlib.Core.List.{List, [], _∷_, _++_, append-assoc}
+use mathlib.Core.Path.{_≡_, sym, _∙_}
+use mathlib.Core.List.{List, _++_, append-assoc}
 use Prim.Native.Nat.{ℕ, _+_, _≤_}
 use native.Mathlib.Nat.{zero-add}
 use native.Mathlib.Omega.{arith}
-use lib.ListN.{length, take, drop, set, length-append, length-drop}
-use lib.Seq.{sets, sets-eq, take-append-le, take-take, drop-at, take-at, drop-drop, length-take-le}
+use lib.ListN.{length, take, drop, length-append}
+use lib.Seq.{sets, sets-eq, take-append-le, take-take, drop-at, length-take-le}
 
 -- a run of bytes that ends where the new part starts makes it longer
 pub prepend : (old new xs : List ℕ) (at end : ℕ) → at + length xs ≡ end → end ≤ length old
@@ -19,27 +18,9 @@ prepend old new xs at end meet fits =
     let last : drop (at + length xs) (take end old ++ new) ≡ new = rw meet (drop-at (take end old) new end head) in
     sets-eq xs (take end old ++ new) at room ∙ rw (first, last) (append-assoc (take at old) xs new)
 
--- one byte that may be wanted
-pub sets-if : (wanted : Bool) (l : List ℕ) (at x : ℕ) → cond wanted (set l at x) l ≡ sets l at (cond wanted (x ∷ []) [])
-sets-if true l at x = refl
-sets-if false l at x = refl
-
 -- a sign before a middle: both stand at the start, and the rest as it was
 pub signed : (old sign middle : List ℕ) (end : ℕ) → end ≡ length sign + length middle → end ≤ length old
     → sets (take (length sign) old ++ (middle ++ drop end old)) 0 sign ≡ (sign ++ middle) ++ drop end old
 signed old sign middle end meet fits =
     prepend old (middle ++ drop end old) sign 0 (length sign) (zero-add (length sign)) (omega arith)
     ∙ sym (append-assoc sign middle (drop end old))
-
--- an end behind what stands at the start
-pub ended : (old front end : List ℕ) (len : ℕ) → length front ≡ len → len + length end ≤ length old
-    → sets (front ++ drop len old) len end ≡ front ++ (end ++ drop (len + length end) old)
-ended old front end len long fits =
-    let room : len + length end ≤ length (front ++ drop len old) = simp (length-append, long, length-drop) (omega arith) in
-    let first : take len (front ++ drop len old) ≡ front = take-at front (drop len old) len long in
-    let last : drop (len + length end) (front ++ drop len old) ≡ drop (len + length end) old =
-    sym (drop-drop (length end) len (front ++ drop len old))
-    ∙ ap (drop (length end)) (drop-at front (drop len old) len long)
-    ∙ drop-drop (length end) len old in
-    sets-eq end (front ++ drop len old) len room
-    ∙ rw (first, last) (append-assoc front end (drop (len + length end) old))

@@ -3,14 +3,14 @@ use mathlib.Core.Path.{_≡_, ap, _∙_}
 use mathlib.Core.List.{List}
 use Prim.Native.Nat.{ℕ}
 use lib.ListN.{length}
-use Rattle.paper.specs.Layings.{laying, laidIn}
+use Rattle.paper.specs.Layings.{laying, laidIn, convertedBy}
 use Rattle.forms.specs.Strings.{radix, Form, count, string}
 use Rattle.forms.specs.Calls.{known}
 use Rattle.forms.specs.inner.Steps.{numberIn}
 use Rattle.forms.specs.declared.size.Number.{Number}
-use Rattle.numbers.specs.Conversions.{answerIn, bufferIn, convertedBy}
+use Rattle.numbers.specs.Conversions.{answerIn, bufferIn}
 use Rattle.numbers.specs.inner.Steps.{stringOf}
-use Rattle.numbers.specs.declared.Converted.{Converted}
+use Rattle.paper.specs.declared.layings.Converted.{Converted}
 
 module _ (form : Form) (value : ℕ) (number : Number) (k : ℕ) where
   abbrev text : List ℕ

@@ -1,14 +1,14 @@
 // Numbers to strings: the 26 calls of the chapter, and the signed decimal that other chapters write.
 ghost use mathlib.Core.Path.{_≡_};
-ghost use mathlib.Core.Bool.{true, cond};
+ghost use mathlib.Core.Bool.{true};
 ghost use mathlib.Core.List.{_++_};
 ghost use Prim.Native.Nat.{_≤_};
-ghost use lib.ListN.{length, drop, set};
-ghost use Rattle.paper.specs.Layings.{laying, laidIn};
+ghost use lib.ListN.{length, drop};
+ghost use Rattle.paper.specs.Layings.{laying, laidIn, convertedBy};
 ghost use Rattle.forms.specs.Digits.{digitCount};
 ghost use Rattle.forms.specs.Strings.{radix, largest};
 ghost use Rattle.forms.specs.Calls.{fixed, decimal, decimalOf, known};
-ghost use Rattle.numbers.specs.Conversions.{answerIn, bufferIn, answerOf, bufferOf, convertedBy};
+ghost use Rattle.numbers.specs.Conversions.{answerIn, bufferIn, answerOf, bufferOf};
 ghost use Rattle.numbers.specs.inner.Steps.{charactersOf, stringOf};
 
 mod digits;
@@ -16,28 +16,16 @@ mod digits;
 use forms::calls;
 use forms::calls::Family;
 use forms::counts;
-use forms::counts::one_if;
 use forms::forms::Base;
 use forms::forms::Width;
 use forms::size;
 use forms::size::Number;
-use paper::NO_ROOM;
+use paper::TextPlace;
 use paper::UNKNOWN_CALL;
-
-// What a conversion answers. `offset` is the number of characters, where the zero byte stands if there is one; `need` is the
-// room that the whole string takes; `free` is the room behind the characters.
-pub enum Converted {
-    Written {
-        offset: usize,
-        need: usize,
-        free: usize,
-    },
-    Refused {
-        number: u8,
-        need: usize,
-        free: usize,
-    },
-}
+use paper::layings::Converted;
+use paper::layings::claim;
+use paper::layings::put_if;
+use paper::one_if;
 
 // One of the calls by its number: the string of `value` at the start of `buf`, or a refusal that changes nothing. Each family has
 // a call of its own, so that the compiler makes code for each, with no test of what its form is.
@@ -49,6 +37,7 @@ pub fn convert(call: u32, value: u32, buf: &mut [u8]) -> Converted
     match family {
         Family::NoCall => Converted::Refused {
             number: UNKNOWN_CALL,
+            at: TextPlace(0),
             need: 0,
             free: buf.len(),
         },
@@ -97,8 +86,7 @@ fn write_decimal(signed: bool, spaced: bool, width: Width, value: u32, buf: &mut
     write_number(number, Base::Ten, count, spaced, true, buf)
 }
 
-// The last `count` digits of a number, its minus and its zero byte, whole or not at all. Both answers are made at one end: with a
-// `return` for one of them, the compiler leaves the answer in memory.
+// The last `count` digits of a number, its minus and its zero byte, whole or not at all.
 fn write_number(
     number: Number,
     base: Base,
@@ -112,24 +100,15 @@ fn write_number(
     ensures buffer { λ r. ⌜ now (buf .exit) ≡ laidIn (stringOf number (radix base) count spaced) terminated (now (buf .entry)) ⌝ }
 {
     let end = characters(number.negative, spaced, count);
-    let need = end + one_if(terminated);
-    let room = buf.len();
-    if room < need {
-        Converted::Refused {
-            number: NO_ROOM,
-            need,
-            free: room,
-        }
-    } else {
+    let answer = claim(end as u32, terminated, buf);
+    if let Converted::Written {
+        offset: _,
+        need: _,
+        free: _,
+    } = answer {
         lay_number(number, base, count, spaced, end, buf);
-        put_if(terminated, 0, end, buf);
-        let free = room - end;
-        Converted::Written {
-            offset: end,
-            need,
-            free,
-        }
     }
+    answer
 }
 
 // How many characters `count` digits take with their minus and their spaces.
@@ -147,15 +126,4 @@ fn lay_number(number: Number, base: Base, count: usize, spaced: bool, end: usize
 {
     digits::put_digits(base, spaced, count, number.magnitude, end, buf);
     put_if(number.negative, b'-', 0, buf);
-}
-
-// Writes one byte, if it is wanted and lies inside the buffer.
-fn put_if(wanted: bool, byte: u8, at: usize, buf: &mut [u8])
-    ensures { λ r. ⌜ now (buf .exit) ≡ cond wanted (set (now (buf .entry)) at byte) (now (buf .entry)) ⌝ }
-{
-    if wanted {
-        if at < buf.len() {
-            buf[at] = byte;
-        }
-    }
 }

@@ -8,7 +8,7 @@ use native.Mathlib.Omega.{arith}
 use lib.ListN.{length, take, drop, length-append}
 use lib.Seq.{take-at, drop-at}
 use Rattle.paper.specs.Answers.{in-text, Answer, Grown, GrownWhole}
-use Rattle.paper.specs.Layings.{terminator, roomFor, laying, laidIn}
+use Rattle.paper.specs.Layings.{terminator, roomFor, laying, layingOf, laidIn}
 use Rattle.paper.specs.Refusals.{no-room}
 use Rattle.paper.proofs.Choice.{below, not-below}
 
@@ -22,7 +22,7 @@ pub data Outcome (string : List ℕ) (terminated : Bool) (buf : List ℕ) : Answ
 
 pub outcome : (string : List ℕ) (terminated : Bool) (buf : List ℕ)
     → Outcome string terminated buf (laying string terminated (length buf)) (laidIn string terminated buf)
-unfolding laying laidIn
+unfolding layingOf laidIn
 outcome string terminated buf = go (decLt (length buf) (roomFor string terminated))
   where
     go : Dec (length buf < roomFor string terminated) → Outcome string terminated buf (laying string terminated (length buf)) (laidIn string terminated buf)

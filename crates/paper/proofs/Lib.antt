@@ -5,4 +5,6 @@ pub mod Placed
 pub mod Listed
 pub mod DemandThree
 pub mod Made
+pub mod Stores
 pub mod Laid
+pub mod Claimed

@@ -5,3 +5,4 @@ pub mod Texts
 pub mod Answers
 pub mod Layings
 pub mod Traces
+pub mod inner

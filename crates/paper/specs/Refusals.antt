@@ -59,6 +59,9 @@ not-an-integer = 17
 abbrev pub over-length : ℕ
 over-length = 18
 
+abbrev pub bad-field : ℕ
+bad-field = 19
+
 -- in bytes
 abbrev pub longest : ℕ
 longest = 65535

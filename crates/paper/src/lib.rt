@@ -1,8 +1,13 @@
-// What every chapter shares: the two kinds of place and the two tables, the refusal numbers by name, a text's bytes and the allowance.
+// What every chapter shares: the two kinds of place and the two tables, the refusal numbers by name, a text's bytes, a string that is laid
+// into a buffer, and the allowance.
+ghost use mathlib.Core.Path.{_≡_};
+ghost use mathlib.Core.Bool.{cond};
+ghost use Prim.Native.Nat.{_≤_};
 
 pub mod allowance;
 pub mod bytes;
 pub mod faults;
+pub mod layings;
 
 // A place in a text, counted in bytes from its start.
 pub struct TextPlace(pub usize);
@@ -53,5 +58,17 @@ pub const NOT_AN_INTEGER: u8 = 17;
 
 pub const OVER_LENGTH: u8 = 18;
 
+pub const BAD_FIELD: u8 = 19;
+
 // The longest text or table that is read, in bytes.
 pub const LONGEST: usize = 65535;
+
+// A number to be summed, and no branch.
+pub fn one_if(present: bool) -> usize
+    ensures { λ r. ⌜ (r ≡ cond present 1 0) × (r ≤ 1) ⌝ }
+{
+    if present {
+        return 1;
+    }
+    0
+}

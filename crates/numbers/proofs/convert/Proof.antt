@@ -4,12 +4,13 @@ use mathlib.Core.List.{List}
 use Prim.Native.Nat.{ℕ, _/_}
 use lib.ListN.{length}
 use borrow.Author.Needs.{needs}
+use Rattle.paper.specs.Layings.{convertedBy}
 use Rattle.forms.specs.Strings.{Form}
 use Rattle.forms.specs.Calls.{unknown, known, described}
 use Rattle.forms.specs.inner.Steps.{formOf}
 use Rattle.forms.specs.declared.calls.Family.{Family}
-use Rattle.numbers.specs.Conversions.{answerIn, bufferIn, answerOf, bufferOf, convertedBy}
-use Rattle.numbers.specs.declared.Converted.{Converted}
+use Rattle.numbers.specs.Conversions.{answerIn, bufferIn, answerOf, bufferOf}
+use Rattle.paper.specs.declared.layings.Converted.{Converted}
 use Rattle.numbers.proofs.Bounds.{hex-digits, binary-digits}
 use Rattle.numbers.proofs.convert.Statement.{statement}
 use Rattle.numbers.proofs.convert.Tie as tie

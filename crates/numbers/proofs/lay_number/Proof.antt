@@ -12,7 +12,8 @@ use Rattle.forms.specs.Strings.{radix, minus}
 use Rattle.forms.specs.declared.size.Number.{Number}
 use Rattle.numbers.specs.inner.Steps.{spreadOf, charactersOf, stringOf}
 use Rattle.numbers.proofs.Laws.{digits-length}
-use Rattle.numbers.proofs.Buffer.{sets-if, signed}
+use Rattle.paper.proofs.Stores.{sets-if}
+use Rattle.numbers.proofs.Buffer.{signed}
 use Rattle.numbers.proofs.lay_number.Statement.{statement}
 use Rattle.numbers.proofs.lay_number.Tie as tie
 

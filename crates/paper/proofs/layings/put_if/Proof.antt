@@ -2,8 +2,8 @@
 use mathlib.Core.Path.{sym}
 use lib.Seq.{set-out}
 use borrow.Author.Needs.{needs}
-use Rattle.numbers.proofs.put_if.Statement.{statement}
-use Rattle.numbers.proofs.put_if.Tie as tie
+use Rattle.paper.proofs.layings.put_if.Statement.{statement}
+use Rattle.paper.proofs.layings.put_if.Tie as tie
 
 returns : tie.Need-returns
 returns c = rw (c .before .if1 .taken)
