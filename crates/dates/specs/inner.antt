@@ -1,0 +1,2 @@
+-- What no contract of an operation cites.
+pub mod Steps
