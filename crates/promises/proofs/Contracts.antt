@@ -4,12 +4,16 @@ use mathlib.Core.List.{_++_}
 use lib.ListN.{length, drop}
 use denote.Ref.{now}
 use Rattle.numbers.proofs.PaperNumbers.{converted-kept}
+use Rattle.dates.proofs.Outcomes as Dates
 use Rattle.filter.specs.Answers.{answerTo}
 use Rattle.nosgoludd.specs.Faces.{answerFace}
-use Rattle.promises.specs.Ties.{Convert, ReadUnsigned, CheckTable, LookUp, LookUpValue, Translate, Evaluate, NosConvert, NosReadUnsigned, NosCheckTable, NosLookUp, NosTranslate, NosEvaluate, ProgramAnswer, Any}
+use Rattle.promises.specs.Ties.{Convert, ConvertDate, ReadUnsigned, CheckTable, LookUp, LookUpValue, Translate, Evaluate, NosConvert, NosConvertDate, NosReadUnsigned, NosCheckTable, NosLookUp, NosTranslate, NosEvaluate, ProgramAnswer, Any}
 
 pub convert : Convert
 convert κs call value buf after r learnt = record { answer = learnt .0; buffer = learnt .1 }
+
+pub convert-date : ConvertDate
+convert-date κs time format buf after r learnt = record { answer = learnt .0; buffer = learnt .1 }
 
 pub read-unsigned : ReadUnsigned
 read-unsigned κs text whole limit r learnt = record { answer = learnt }
@@ -37,6 +41,14 @@ nos-convert κs call value buf after r learnt =
       face = learnt .0 ∙ sym (ap answerFace (converted-kept call value (length (now buf))));
     }
 
+pub nos-convert-date : NosConvertDate
+nos-convert-date κs time format buf after r learnt =
+    record {
+      answer = _;
+      allowed = record { answer = refl; buffer = learnt .1 };
+      face = learnt .0 ∙ sym (ap answerFace (Dates.converted-kept (now time) (now format) (length (now buf))));
+    }
+
 pub nos-read-unsigned : NosReadUnsigned
 nos-read-unsigned κs text whole limit r learnt = record { answer = _; allowed = record { answer = refl }; face = learnt }
 
@@ -61,6 +73,7 @@ pub any : Any
 any =
     record {
       convert = λ κs call value buf. tt;
+      convert-date = λ κs time format buf. tt;
       read-unsigned = λ κs text whole limit. tt;
       check-table = λ κs table. tt;
       look-up = λ κs farm house name. tt;
@@ -68,6 +81,7 @@ any =
       translate = λ κs text farm house flags allowance out. tt;
       evaluate = λ κs text farm house allowance. tt;
       nos-convert = λ κs call value buf. tt;
+      nos-convert-date = λ κs time format buf. tt;
       nos-read-unsigned = λ κs text whole limit. tt;
       nos-check-table = λ κs table. tt;
       nos-look-up = λ κs name farm house. tt;

@@ -1,46 +1,35 @@
 -- What `convert` promises is kept.
 use mathlib.Core.Path.{_≡_, refl, ap, ap₂, sym, subst, _∙_}
 use mathlib.Core.List.{List, [], _++_, append-nil}
-use mathlib.Core.Bool.{true}
-use mathlib.Core.Logic.{_↔_}
 use Prim.Native.Nat.{ℕ, _+_, _-_, _≤_, _<_}
 use native.Mathlib.Omega.{arith}
-use borrow.Author.Tests.{eqb-false}
-use lib.Dec.{eqb}
 use lib.ListN.{length, take, drop, length-append}
 use lib.Seq.{take-append-seam}
 use Rattle.paper.specs.Answers.{in-text, Answer, refusal, GrownWhole}
-use Rattle.paper.specs.Layings.{terminator, roomFor}
+use Rattle.paper.specs.Layings.{terminator, convertedAnswer}
 use Rattle.paper.specs.Refusals.{no-room, unknown-call, longest}
-use Rattle.paper.proofs.Choice.{clash, either}
 use Rattle.paper.proofs.Laid as Laid
 use Rattle.paper.proofs.Laid.{no-room-for, laid, grows-by}
 use Rattle.forms.specs.Strings.{Form, used, string}
 use Rattle.forms.specs.Calls.{unknown, known, described}
 use Rattle.forms.specs.declared.forms.Base.{Base}
 use Rattle.forms.specs.declared.forms.Base.the-variants.{Two, Ten, Sixteen}
-use Rattle.numbers.specs.Conversions.{answerOf, convertedBy, convertedAnswer}
-use Rattle.numbers.specs.declared.Converted.{Converted}
+use Rattle.numbers.specs.Conversions.{answerOf}
+use Rattle.paper.specs.declared.layings.Converted.{Converted}
 use Rattle.numbers.proofs.Bounds.{string-short}
 use Rattle.reader.specs.Reading.{no-limit, reading, valued, readNumber, readPlace, readValue}
 use Rattle.promises.specs.Leads.{lead}
 use Rattle.promises.proofs.ReadBack.{read-back}
-use Rattle.promises.specs.Accepted.{isConverted}
 use Rattle.promises.specs.Conversions.{OneAnswer, Accepts, needed, Refuses, Refusals, Tells, Exact, OffsetAndFree, Bytes, ReadAs, ReadsBack, LargerRoom, SecondAsk}
+use Rattle.promises.proofs.Layings as Layings
+use Rattle.promises.proofs.Layings.{accepts-by, refusal-grows}
 use Rattle.promises.proofs.Outcomes.{Outcome, refuses, lays, one-form, not-both, outcome}
 
 pub one-answer : OneAnswer
 one-answer call value buf after after′ r r′ c c′ = (c .answer ∙ sym (c′ .answer), c .buffer ∙ sym (c′ .buffer))
 
--- an answer as the code has it is accepted exactly where its number is 0
-accepts-by : (a : Answer) → (convertedAnswer (convertedBy a) .number ≡ 0) ↔ (isConverted (convertedBy a) ≡ true)
-accepts-by a =
-    either (λ r. (convertedAnswer r .number ≡ 0) ↔ (isConverted r ≡ true)) (eqb (a .number) 0)
-    (λ _. (λ _. refl, λ _. refl)) (λ e. (λ z. absurd (eqb-false (a .number) 0 e z), λ z. clash (cc)))
-
 pub accepts : Accepts
-accepts call value buf after r c =
-    subst (λ r. (convertedAnswer r .number ≡ 0) ↔ (isConverted r ≡ true)) (sym (c .answer)) (accepts-by (answerOf call value (length buf)))
+accepts call value buf after r c = accepts-by (answerOf call value (length buf)) r (c .answer)
 
 -- two forms of one call need the same room
 same-need : (call value : ℕ) (f g : Form) → described call ≡ known f → described call ≡ known g → needed f value ≡ needed g value
@@ -102,15 +91,13 @@ module _ (call value : ℕ) (buf : List ℕ) where
   written : (form : Form) (a : Answer) (after : List ℕ) → described call ≡ known form → a .number ≡ 0 → Outcome call value buf a after
       → (a .place ≡ length (string form value)) × (after ≡ string form value ++ (terminator (form .terminated) ++ drop (needed form value) buf))
   written form a after e accepted (refuses k) = absurd (omega arith)
-  written form a after e accepted (lays g k (no-room-for less)) = absurd (omega arith)
-  written form a after e accepted (lays g k (laid room)) =
-      let same = one-form call g form k e in
-      (ap (λ f. length (string f value)) same, ap (λ f. string f value ++ (terminator (f .terminated) ++ drop (needed f value) buf)) same)
+  written form a after e accepted (lays g k o) =
+      subst (λ f. (a .place ≡ length (string f value)) × (after ≡ string f value ++ (terminator (f .terminated) ++ drop (needed f value) buf)))
+      (one-form call g form k e) (Layings.written (string g value) (g .terminated) buf a after accepted o)
 
   summed : (a : Answer) (after : List ℕ) → Outcome call value buf a after → a .number ≡ 0 → a .place + a .free ≡ length buf
   summed a after (refuses k) e = absurd (omega arith)
-  summed a after (lays form k (no-room-for less)) e = absurd (omega arith)
-  summed a after (lays form k (laid room)) e = omega arith
+  summed a after (lays form k o) e = Layings.summed (string form value) (form .terminated) buf a after e o
 
 pub refusals : Refusals
 refusals call value buf after r c = refused-as call value buf (convertedAnswer r) after (outcome call value buf r after c)
@@ -146,8 +133,7 @@ reads-back call value form buf after r e unsigned unspaced c accepted option ans
 module _ (call value more : ℕ) (buf buf′ : List ℕ) (longer : length buf′ ≡ length buf + more) where
   grown : (a a′ : Answer) (after after′ : List ℕ) → Outcome call value buf a after → Outcome call value buf′ a′ after′ → (a .number ≡ no-room → ⊥)
       → GrownWhole after buf′ after′ more a a′
-  grown a a′ after after′ (refuses k) (refuses k′) m =
-      record { answer = record { number = refl; counted = refl; place = refl; need = refl; free = longer }; written = refl; behind = refl }
+  grown a a′ after after′ (refuses k) (refuses k′) m = refusal-grows unknown-call 0 more buf buf′ longer
   grown a a′ after after′ (refuses k) (lays g k′ o) m = absurd (not-both call g k k′)
   grown a a′ after after′ (lays f k o) (refuses k′) m = absurd (not-both call f k′ k)
   grown a a′ after after′ (lays f k o) (lays g k′ o′) m =
@@ -161,10 +147,9 @@ larger-room call value more buf after buf′ after′ r r′ longer c c′ =
 again : (call value : ℕ) (buf after buf′ after′ : List ℕ) (a a′ : Answer) → Outcome call value buf a after
     → Outcome call value buf′ a′ after′ → a .number ≡ no-room → a .need ≤ length buf′ → a′ .number ≡ 0
 again call value buf after buf′ after′ a a′ (refuses k) o e enough = absurd (omega arith)
-again call value buf after buf′ after′ a a′ (lays f k (no-room-for less)) (refuses k′) e enough = absurd (not-both call f k′ k)
-again call value buf after buf′ after′ a a′ (lays f k (no-room-for less)) (lays g k′ (no-room-for less′)) e enough = absurd (omega (arith, same-need call value f g k k′))
-again call value buf after buf′ after′ a a′ (lays f k (no-room-for less)) (lays g k′ (laid room)) e enough = refl
-again call value buf after buf′ after′ a a′ (lays f k (laid room)) o e enough = absurd (omega arith)
+again call value buf after buf′ after′ a a′ (lays f k o) (refuses k′) e enough = absurd (not-both call f k′ k)
+again call value buf after buf′ after′ a a′ (lays f k o) (lays g k′ o′) e enough =
+    Layings.again (string f value) (f .terminated) buf (string g value) (g .terminated) buf′ (same-need call value g f k′ k) a a′ after after′ o o′ .1 .1 enough
 
 pub second-ask : SecondAsk
 second-ask call value buf after buf′ after′ r r′ c e enough c′ =

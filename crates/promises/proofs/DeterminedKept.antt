@@ -1,13 +1,15 @@
--- Every public function beside the six operations has one answer: its contract says it as a function of what is given.
+-- Every public function beside the seven operations has one answer: its contract says it as a function of what is given.
 use mathlib.Core.Path.{_≡_, refl, ap, ap₂, sym, _∙_}
 use mathlib.Core.Bool.{cond, not}
 use mathlib.Core.List.{[], _∷_, _++_}
-use Prim.Native.Nat.{_+_, _/_, _%_, _^_}
+use Prim.Native.Nat.{_+_, _*_, _/_, _%_, _^_}
 use denote.Ref.{now}
 use lib.Dec.{eqb}
-use lib.ListN.{length, take, drop, getD}
+use lib.ListN.{length, take, drop, getD, set}
 use Rattle.paper.specs.Bytes as Bytes
 use Rattle.paper.specs.Traces.{allowed, faultNumber}
+use Rattle.paper.specs.Layings.{layingOf, convertedBy}
+use Rattle.paper.specs.inner.Claims.{claimedIn}
 use Rattle.forms.specs.Digits.{glyph, digitCount}
 use Rattle.forms.specs.Strings.{radix, bits, Form}
 use Rattle.forms.specs.Calls.{Described, unknown, known, described, decimalOf}
@@ -17,6 +19,8 @@ use Rattle.forms.specs.declared.calls.Family.the-variants as Families
 use Rattle.forms.specs.declared.forms.Base.{Base}
 use Rattle.forms.specs.declared.forms.Base.the-variants.{Two, Ten, Sixteen}
 use Rattle.numbers.specs.Conversions.{answerOf, bufferOf}
+use Rattle.calendar.specs.Moments.{momentAt}
+use Rattle.dates.specs.Conversions.{dateAnswer, dateBuffer}
 use Rattle.reader.specs.Reading.{reading}
 use Rattle.records.specs.Records as Records
 use Rattle.records.specs.Kinds.{kindNumber, pattern, variableAt}
@@ -98,9 +102,13 @@ determined =
       kind-has = function-of (λ (kind, (c, _)). Bytes.ofKind kind c) (λ κs a r after c. c);
       skip = function-of (λ (kind, (text, (start, _))). start + Bytes.runOf (Bytes.ofKind kind) (drop start text)) (λ κs a r after c. c);
       fault-number = function-of (λ (fault, _). faultNumber fault) (λ κs a r after c. c);
+      one-if = function-of (λ (present, _). cond present 1 0) (λ κs a r after c. c .0);
+      put-if = function-of (λ (wanted, (byte, (at, (buf, _)))). (tt, cond wanted (set buf at byte) buf)) (λ κs a r after c. ap (λ out. (tt, out)) c);
+      claim =
+          function-of (λ (characters, (terminated, (buf, _))). (convertedBy (layingOf characters terminated (length buf)), claimedIn characters terminated buf))
+          (λ κs a r after c. ap₂ (λ r out. (r, out)) (c .0) (c .1));
       family-of = function-of (λ (call, _). familyBy (described call)) (λ κs a r after c. family-back r ∙ ap familyBy c);
       count-decimal = function-of (λ (n, _). digitCount 10 n) (λ κs a r after c. c .0);
-      one-if = function-of (λ (present, _). cond present 1 0) (λ κs a r after c. c .0);
       base-shrink = function-of (λ (base, (n, _)). n / radix base) (λ κs a r after c. c);
       base-last-glyph = function-of (λ (base, (n, _)). glyph (n % radix base)) (λ κs a r after c. c);
       width-bits = function-of (λ (width, _). bits width) (λ κs a r after c. c);
@@ -109,6 +117,7 @@ determined =
       signed-decimal =
           function-of (λ (value, (out, _)). (length (decimalOf value), decimalOf value ++ drop (length (decimalOf value)) out))
           (λ κs a r after c. ap₂ (λ r out. (r, out)) (c .0 .0) (c .1));
+      moment-of = function-of (λ (low, (high, _)). momentAt (low + 4294967296 * high)) (λ κs a r after c. c);
       part = function-of (λ (table, (start, (size, _))). take size (drop start table)) (λ κs a r after c. c);
       name-at = function-of (λ (table, (place, _)). Records.nameAt table place) (λ κs a r after c. c);
       next-place = function-of (λ (table, (place, _)). Records.nextPlace table place) (λ κs a r after c. c);
@@ -162,6 +171,9 @@ determined =
           (λ κs a r after c. ap₂ (λ r out. (r, out)) (c .0) (c .1 ∙ ap (λ n. answerTo (now (a .0)) ++ drop n (now (a .1 .0))) (c .0)));
       nos-convert =
           function-of (λ (call, (value, (buf, _))). (answerFace (answerOf call value (length buf)), bufferOf call value buf))
+          (λ κs a r after c. ap₂ (λ r buf. (r, buf)) (c .0) (c .1));
+      nos-convert-date =
+          function-of (λ (time, (format, (buf, _))). (answerFace (dateAnswer time format (length buf)), dateBuffer time format buf))
           (λ κs a r after c. ap₂ (λ r buf. (r, buf)) (c .0) (c .1));
       nos-read-unsigned =
           function-of (λ (text, (whole, (limit, _))). readingFace (reading text (not (eqb whole 0)) limit)) (λ κs a r after c. c);

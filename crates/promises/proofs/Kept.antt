@@ -3,6 +3,7 @@ use Rattle.promises.specs.Promises.{Promises}
 use Rattle.promises.proofs.Contracts as Contracts
 use Rattle.promises.proofs.WorkedExamples.{worked-examples}
 use Rattle.promises.proofs.ConversionsKept as Conversions
+use Rattle.promises.proofs.DatesKept as Dates
 use Rattle.promises.proofs.ReadingsKept as Readings
 use Rattle.promises.proofs.TwoTablesKept as TwoTables
 use Rattle.promises.proofs.LookupsKept as Lookups
@@ -25,6 +26,19 @@ promises =
       convert-reads-back = Conversions.reads-back;
       convert-larger-room = Conversions.larger-room;
       convert-second-ask = Conversions.second-ask;
+      date-tied = Contracts.convert-date;
+      date-one-answer = Dates.one-answer;
+      date-accepts = Dates.accepts;
+      date-refusals = Dates.refusals;
+      date-exact = Dates.exact;
+      date-offset-and-free = Dates.offset-and-free;
+      date-bad-field = Dates.bad-field-is;
+      date-bytes = Dates.bytes;
+      date-larger-room = Dates.larger-room;
+      date-second-ask = Dates.second-ask;
+      date-need-by-format = Dates.need-by-format;
+      date-of-a-day = Dates.of-a-day;
+      date-leap-years = Dates.leap-years;
       read-tied = Contracts.read-unsigned;
       read-one-answer = Readings.one-answer;
       read-accepts = Readings.accepts;
@@ -81,6 +95,7 @@ promises =
       evaluate-larger = Evaluations.larger;
       evaluate-spent = Evaluations.spent-comes;
       nos-convert-tied = Contracts.nos-convert;
+      nos-convert-date-tied = Contracts.nos-convert-date;
       nos-read-unsigned-tied = Contracts.nos-read-unsigned;
       nos-check-table-tied = Contracts.nos-check-table;
       nos-look-up-tied = Contracts.nos-look-up;

@@ -3,7 +3,9 @@ pub mod Contracts
 pub mod ReadBack
 pub mod Outcomes
 pub mod WorkedExamples
+pub mod Layings
 pub mod ConversionsKept
+pub mod DatesKept
 pub mod ReadingsKept
 pub mod TwoTablesKept
 pub mod LookupsKept

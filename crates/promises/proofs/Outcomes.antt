@@ -9,8 +9,9 @@ use Rattle.paper.specs.Refusals.{unknown-call}
 use Rattle.paper.proofs.Laid as Laid
 use Rattle.forms.specs.Strings.{Form, string}
 use Rattle.forms.specs.Calls.{Described, unknown, known, described}
-use Rattle.numbers.specs.Conversions.{answerIn, bufferIn, answerOf, bufferOf, convertedAnswer}
-use Rattle.numbers.specs.declared.Converted.{Converted}
+use Rattle.paper.specs.Layings.{convertedAnswer}
+use Rattle.numbers.specs.Conversions.{answerIn, bufferIn, answerOf, bufferOf}
+use Rattle.paper.specs.declared.layings.Converted.{Converted}
 use Rattle.numbers.proofs.PaperNumbers.{converted-kept}
 use Rattle.promises.specs.Allowed.{Converts}
 

@@ -1,8 +1,8 @@
 -- Every worked example holds of every answer that the contracts allow.
-use mathlib.Core.Path.{_≡_, refl, ap, _∙_}
+use mathlib.Core.Path.{_≡_, refl, ap, ap₂, sym, _∙_}
 use mathlib.Core.Bool.{true, false}
 use mathlib.Core.List.{List, [], _∷_, _++_}
-use Prim.Native.Nat.{ℕ, _≤_, _<_}
+use Prim.Native.Nat.{ℕ, _-_, _≤_, _<_}
 use Prim.Native.String.{String}
 use native.Mathlib.Omega.{arith}
 use lib.Dec.{lit≤, lit<}
@@ -10,16 +10,23 @@ use lib.IntN.{pos, negℤ}
 use lib.ListN.{length, drop}
 use Rattle.paper.specs.Answers.{Answer, in-text, in-house, in-farm}
 use Rattle.paper.specs.Bytes.{nameByte, wordByte}
-use Rattle.paper.specs.Layings.{terminator, laying}
-use Rattle.paper.specs.Refusals.{bad-base, too-deep, allowance-spent, bad-table, bad-expression, not-an-integer}
+use Rattle.paper.specs.Layings.{terminator, roomFor, layingOf, convertedBy, convertedAnswer}
+use Rattle.paper.specs.Refusals.{no-room, bad-base, too-deep, allowance-spent, bad-table, bad-expression, not-an-integer, over-length, bad-field}
 use Rattle.paper.specs.Texts.{bytes}
 use Rattle.paper.specs.Traces as Traces
 use Rattle.forms.specs.Digits.{digits, enough}
 use Rattle.forms.specs.Strings.{Form, string}
 use Rattle.forms.specs.Calls.{hex, decimal, known, ranged, described}
 use Rattle.forms.specs.declared.forms.Width.the-variants.{Byte, ThreeBytes, Word}
-use Rattle.numbers.specs.Conversions.{answerOf, convertedBy, convertedAnswer}
-use Rattle.numbers.specs.declared.Converted.{Converted}
+use Rattle.numbers.specs.Conversions.{answerOf}
+use Rattle.paper.specs.declared.layings.Converted.{Converted}
+use Rattle.calendar.specs.Counting.{total}
+use Rattle.calendar.specs.Dates.{lastBegun, dateOf}
+use Rattle.calendar.specs.Moments.{momentAt}
+use Rattle.dates.specs.Fields.{dateField, fieldNamed, shown}
+use Rattle.dates.specs.Formats.{pieceAt, layoutFrom, good}
+use Rattle.dates.specs.Conversions.{dated, dateAnswer}
+use Rattle.dates.proofs.Outcomes.{converted-kept}
 use Rattle.reader.specs.Reading.{digit, judged as judgedReading, inBase, numbered, reading, readNumber, readPlace, readValue}
 use Rattle.records.specs.Records.{string-kind, integer-kind, headed, sized, fitting, nameAt, valueAt, small, sameName, entryAt}
 use Rattle.variables.specs.Tables.{entries, sought, sound, scanned}
@@ -36,10 +43,12 @@ use Rattle.gs.specs.declared.Translated.{Translated}
 use Rattle.expressions.specs.declared.Evaluated.{Evaluated}
 use Rattle.expressions.specs.Answers.{evaluated, evaluatedNumber, evaluatedCounted, evaluatedPlace, evaluatedValue}
 use Rattle.arithmetic.specs.Values.{signed, sum, difference, product, quotient, remainder}
-use Rattle.promises.specs.Allowed.{Converts, Translates, Evaluates}
-use Rattle.promises.specs.Conversions.{needed}
-use Rattle.promises.specs.Examples.{writes, lacks, reads, refuses, translates, stops, evaluates, fails, finds, selfNaming, named-x, numbered-7, naming-a, Holds, All, examples}
+use Rattle.promises.specs.Allowed.{Converts, Dates, Translates, Evaluates}
+use Rattle.promises.specs.Conversions as Numbers
+use Rattle.promises.specs.Dates.{Fit, fieldsIn, needed}
+use Rattle.promises.specs.Examples.{writes, lacks, dates, mistakes, reads, refuses, translates, stops, evaluates, fails, finds, selfNaming, named-x, numbered-7, naming-a, first-time, last-time, february-1900, march-1900, end-of-1999, end-of-2000, february-2000, Holds, All, examples}
 use Rattle.promises.proofs.ConversionsKept as Conversions
+use Rattle.promises.proofs.DatesKept as DatesOf
 
 -- a row of a call that has a form: its answer is the definition's at the room, and the promises say what it leaves
 module _ (call value room : ℕ) (form : Form) (is : described call ≡ known form) (buf after : List ℕ) (r : Converted) (answer : Answer)
@@ -47,44 +56,64 @@ module _ (call value room : ℕ) (form : Form) (is : described call ≡ known fo
   told : convertedAnswer (convertedBy (answerOf call value room)) ≡ answer → convertedAnswer r ≡ answer
   told computed = ap convertedAnswer (c .answer ∙ ap (λ n. convertedBy (answerOf call value n)) long) ∙ computed
 
-  writes-row : needed form value ≤ room → convertedAnswer (convertedBy (answerOf call value room)) ≡ answer
-      → (convertedAnswer r ≡ answer) × (after ≡ string form value ++ (terminator (form .terminated) ++ drop (needed form value) buf))
+  writes-row : Numbers.needed form value ≤ room → convertedAnswer (convertedBy (answerOf call value room)) ≡ answer
+      → (convertedAnswer r ≡ answer) × (after ≡ string form value ++ (terminator (form .terminated) ++ drop (Numbers.needed form value) buf))
   writes-row enough computed =
       let accepted = Conversions.refusals call value buf after r c .accepted .1 (form, is, omega arith) in
       (told computed, Conversions.bytes call value form buf after r is c accepted)
 
-  lacks-row : room < needed form value → convertedAnswer (convertedBy (answerOf call value room)) ≡ answer → (convertedAnswer r ≡ answer) × (after ≡ buf)
+  lacks-row : room < Numbers.needed form value → convertedAnswer (convertedBy (answerOf call value room)) ≡ answer → (convertedAnswer r ≡ answer) × (after ≡ buf)
   lacks-row less computed =
       let refused = Conversions.refusals call value buf after r c in
       let number = refused .room .1 (form, is, omega arith) in
       (told computed, refused .kept (λ e. omega arith))
 
+-- a row of a time and a format: its string is computed once, and the promises say what is answered and what is left
+module _ (time format : List ℕ) (room : ℕ) (buf after : List ℕ) (r : Converted) (long : length buf ≡ room) (c : Dates time format buf r after) where
+  abbrev accepted-with : List ℕ → ℕ → Answer
+  accepted-with text room = record { number = 0; counted = in-text; place = length text; need = roomFor text true; free = room - length text }
+
+  dates-row : (text : List ℕ) → dated time format ≡ text → Fit time format → fieldsIn format ≡ good → roomFor text true ≤ room
+      → (convertedAnswer r ≡ accepted-with text room) × (after ≡ text ++ (0 ∷ drop (roomFor text true) buf))
+  dates-row text e fit fields enough =
+      let needs : needed time format ≤ length buf = omega (arith, ap length e) in
+      let accepted = DatesOf.refusals time format buf after r c .accepted .1 (fit, fields, needs) in (
+        DatesOf.exact time format buf after r c .accepted fit fields needs ∙ ap₂ accepted-with e long,
+        DatesOf.bytes time format buf after r c accepted ∙ ap (λ text. text ++ (0 ∷ drop (roomFor text true) buf)) e,
+      )
+
+  mistakes-row : (answer : Answer) → dateAnswer time format room ≡ answer → (answer .number ≡ 0 → ⊥) → (convertedAnswer r ≡ answer) × (after ≡ buf)
+  mistakes-row answer computed refused =
+      let is : convertedAnswer r ≡ answer =
+      ap convertedAnswer (c .answer) ∙ converted-kept time format (length buf) ∙ ap (dateAnswer time format) long ∙ computed in
+      (is, DatesOf.refusals time format buf after r c .kept (λ e. refused (ap (λ a. a .number) (sym is) ∙ e)))
+
 p1 : Holds (writes 0xD8 1048576 8 "1048576" 7 8 1)
-unfolding answerOf described ranged laying string digits enough
+unfolding answerOf described ranged layingOf string digits enough
 p1 buf after r long c = writes-row 0xD8 1048576 8 (decimal false false true Word) refl buf after r _ long c (lit≤ tt) refl
 
 p2 : Holds (lacks 0xD8 1048576 7 8)
-unfolding answerOf described ranged laying string digits enough
+unfolding answerOf described ranged layingOf string digits enough
 p2 buf after r long c = lacks-row 0xD8 1048576 7 (decimal false false true Word) refl buf after r _ long c (lit< tt) refl
 
 p3 : Holds (writes 0xE4 1048576 10 "1 048 576" 9 10 1)
-unfolding answerOf described ranged laying string digits enough
+unfolding answerOf described ranged layingOf string digits enough
 p3 buf after r long c = writes-row 0xE4 1048576 10 (decimal false true true Word) refl buf after r _ long c (lit≤ tt) refl
 
 p4 : Holds (writes 0xD5 1048576 2 "0" 1 2 1)
-unfolding answerOf described ranged laying string digits enough
+unfolding answerOf described ranged layingOf string digits enough
 p4 buf after r long c = writes-row 0xD5 1048576 2 (decimal false false true Byte) refl buf after r _ long c (lit≤ tt) refl
 
 p5 : Holds (writes 0xD9 128 5 "-128" 4 5 1)
-unfolding answerOf described ranged laying string digits enough
+unfolding answerOf described ranged layingOf string digits enough
 p5 buf after r long c = writes-row 0xD9 128 5 (decimal true false true Byte) refl buf after r _ long c (lit≤ tt) refl
 
 p6 : Holds (writes 0xE8 2147483648 15 "-2 147 483 648" 14 15 1)
-unfolding answerOf described ranged laying string digits enough
+unfolding answerOf described ranged layingOf string digits enough
 p6 buf after r long c = writes-row 0xE8 2147483648 15 (decimal true true true Word) refl buf after r _ long c (lit≤ tt) refl
 
 p7 : Holds (writes 0xD3 1048576 7 "100000" 6 7 1)
-unfolding answerOf described ranged laying string digits enough
+unfolding answerOf described ranged layingOf string digits enough
 p7 buf after r long c = writes-row 0xD3 1048576 7 (hex ThreeBytes) refl buf after r _ long c (lit≤ tt) refl
 
 p8 : Holds (reads "2_1102" 6 5)
@@ -219,6 +248,62 @@ zero-divisor-unread : Holds (fails "1/0+(" [] [] 0 bad-expression in-text 5)
 unfolding evaluated judged scanned sound headed sized fitting nameAt valueAt nameByte small sameName entryAt entries sought meant startingAt wordToken wordByte signAt single fromLess fromGreater faultOf operatorsFrom operandAt wholeTree divided signed sum difference product quotient remainder reading numbered inBase judgedReading digit
 zero-divisor-unread r c = let e = evaluated-row "1/0+(" [] [] 0 r c in (e .0, e .1, e .2)
 
+first-date : Holds (dates first-time "%24:%MI:%SE.%CS %W3 %DY %M3 %CE%YR" 28 "00:00:00.00 Mon 01 Jan 1900" 27 28 1)
+unfolding dateAnswer layingOf pieceAt layoutFrom fieldNamed dateField shown digits momentAt dateOf lastBegun total
+first-date buf after r long c = dates-row first-time (bytes "%24:%MI:%SE.%CS %W3 %DY %M3 %CE%YR") 28 buf after r long c (bytes "00:00:00.00 Mon 01 Jan 1900") refl (refl, lit≤ tt) refl (lit≤ tt)
+
+last-date : Holds (dates last-time "%24:%MI:%SE.%CS %W3 %DY %M3 %CE%YR" 40 "06:57:57.75 Sat 03 Jun 2248" 27 28 13)
+unfolding dateAnswer layingOf pieceAt layoutFrom fieldNamed dateField shown digits momentAt dateOf lastBegun total
+last-date buf after r long c = dates-row last-time (bytes "%24:%MI:%SE.%CS %W3 %DY %M3 %CE%YR") 40 buf after r long c (bytes "06:57:57.75 Sat 03 Jun 2248") refl (refl, lit≤ tt) refl (lit≤ tt)
+
+day-in-2000 : Holds (dates february-2000 "%CE%YR-%MN-%DY %24:%MI:%SE.%CS" 23 "2000-02-29 12:34:56.78" 22 23 1)
+unfolding dateAnswer layingOf pieceAt layoutFrom fieldNamed dateField shown digits momentAt dateOf lastBegun total
+day-in-2000 buf after r long c = dates-row february-2000 (bytes "%CE%YR-%MN-%DY %24:%MI:%SE.%CS") 23 buf after r long c (bytes "2000-02-29 12:34:56.78") refl (refl, lit≤ tt) refl (lit≤ tt)
+
+last-of-february : Holds (dates february-1900 "%24:%MI:%SE.%CS %W3 %DY %M3 %CE%YR" 28 "23:59:59.99 Wed 28 Feb 1900" 27 28 1)
+unfolding dateAnswer layingOf pieceAt layoutFrom fieldNamed dateField shown digits momentAt dateOf lastBegun total
+last-of-february buf after r long c = dates-row february-1900 (bytes "%24:%MI:%SE.%CS %W3 %DY %M3 %CE%YR") 28 buf after r long c (bytes "23:59:59.99 Wed 28 Feb 1900") refl (refl, lit≤ tt) refl (lit≤ tt)
+
+first-of-march : Holds (dates march-1900 "%24:%MI:%SE.%CS %W3 %DY %M3 %CE%YR" 28 "00:00:00.00 Thu 01 Mar 1900" 27 28 1)
+unfolding dateAnswer layingOf pieceAt layoutFrom fieldNamed dateField shown digits momentAt dateOf lastBegun total
+first-of-march buf after r long c = dates-row march-1900 (bytes "%24:%MI:%SE.%CS %W3 %DY %M3 %CE%YR") 28 buf after r long c (bytes "00:00:00.00 Thu 01 Mar 1900") refl (refl, lit≤ tt) refl (lit≤ tt)
+
+day-366 : Holds (dates end-of-2000 "%DN" 4 "366" 3 4 1)
+unfolding dateAnswer layingOf pieceAt layoutFrom fieldNamed dateField shown digits momentAt dateOf lastBegun total
+day-366 buf after r long c = dates-row end-of-2000 (bytes "%DN") 4 buf after r long c (bytes "366") refl (refl, lit≤ tt) refl (lit≤ tt)
+
+day-365 : Holds (dates end-of-1999 "%DN" 4 "365" 3 4 1)
+unfolding dateAnswer layingOf pieceAt layoutFrom fieldNamed dateField shown digits momentAt dateOf lastBegun total
+day-365 buf after r long c = dates-row end-of-1999 (bytes "%DN") 4 buf after r long c (bytes "365") refl (refl, lit≤ tt) refl (lit≤ tt)
+
+percent-signs : Holds (dates first-time "%%CS" 4 "%CS" 3 4 1)
+unfolding dateAnswer layingOf pieceAt layoutFrom fieldNamed dateField shown digits momentAt dateOf lastBegun total
+percent-signs buf after r long c = dates-row first-time (bytes "%%CS") 4 buf after r long c (bytes "%CS") refl (refl, lit≤ tt) refl (lit≤ tt)
+
+percent-sign-left : Holds (mistakes first-time "%%%" 0 bad-field 2 0)
+unfolding dateAnswer layingOf pieceAt layoutFrom fieldNamed dateField shown digits momentAt dateOf lastBegun total
+percent-sign-left buf after r long c = mistakes-row first-time (bytes "%%%") 0 buf after r long c _ refl (λ e. omega arith)
+
+small-letters : Holds (mistakes first-time "%cs" 9 bad-field 0 0)
+unfolding dateAnswer layingOf pieceAt layoutFrom fieldNamed dateField shown digits momentAt dateOf lastBegun total
+small-letters buf after r long c = mistakes-row first-time (bytes "%cs") 9 buf after r long c _ refl (λ e. omega arith)
+
+half-a-name : Holds (mistakes first-time "%CS%C" 9 bad-field 3 0)
+unfolding dateAnswer layingOf pieceAt layoutFrom fieldNamed dateField shown digits momentAt dateOf lastBegun total
+half-a-name buf after r long c = mistakes-row first-time (bytes "%CS%C") 9 buf after r long c _ refl (λ e. omega arith)
+
+room-too-small : Holds (mistakes first-time "%CS" 2 no-room 0 3)
+unfolding dateAnswer layingOf pieceAt layoutFrom fieldNamed dateField shown digits momentAt dateOf lastBegun total
+room-too-small buf after r long c = mistakes-row first-time (bytes "%CS") 2 buf after r long c _ refl (λ e. omega arith)
+
+empty-format : Holds (dates first-time "" 1 "" 0 1 1)
+unfolding dateAnswer layingOf pieceAt layoutFrom fieldNamed dateField shown digits momentAt dateOf lastBegun total
+empty-format buf after r long c = dates-row first-time (bytes "") 1 buf after r long c (bytes "") refl (refl, lit≤ tt) refl (lit≤ tt)
+
+four-bytes : Holds (mistakes (0 ∷ 0 ∷ 0 ∷ 0 ∷ []) "%cs" 9 over-length 0 0)
+unfolding dateAnswer layingOf pieceAt layoutFrom fieldNamed dateField shown digits momentAt dateOf lastBegun total
+four-bytes buf after r long c = mistakes-row (0 ∷ 0 ∷ 0 ∷ 0 ∷ []) (bytes "%cs") 9 buf after r long c _ refl (λ e. omega arith)
+
 -- the table, whole
 pub worked-examples : All examples
-worked-examples = (p1, (p2, (p3, (p4, (p5, (p6, (p7, (p8, (p9, (p10, (p11, (p12, (p13, (p13-farm, (p14, (p15, (empty-text, (string-hides, (integer-hides, (integer-counts, (string-counts-not, (found-in-the-farm, (found-in-the-house, (macro-of-the-house, (macro-of-the-farm, (macro-spends-two, (farm-told-first, (house-told, (names-itself-thrice, (names-itself, (names-itself-behind, (zero-divisor-unread, tt))))))))))))))))))))))))))))))))
+worked-examples = (p1, (p2, (p3, (p4, (p5, (p6, (p7, (p8, (p9, (p10, (p11, (p12, (p13, (p13-farm, (p14, (p15, (empty-text, (string-hides, (integer-hides, (integer-counts, (string-counts-not, (found-in-the-farm, (found-in-the-house, (macro-of-the-house, (macro-of-the-farm, (macro-spends-two, (farm-told-first, (house-told, (names-itself-thrice, (names-itself, (names-itself-behind, (zero-divisor-unread, (first-date, (last-date, (day-in-2000, (last-of-february, (first-of-march, (day-366, (day-365, (percent-signs, (percent-sign-left, (small-letters, (half-a-name, (room-too-small, (empty-format, (four-bytes, tt))))))))))))))))))))))))))))))))))))))))))))))

@@ -1,7 +1,7 @@
 -- Which case of each answer is the accepted one: a value, a string, a translation, a good table, a known name.
 use mathlib.Core.Bool.{Bool, true, false}
-use Rattle.numbers.specs.declared.Converted.{Converted}
-use Rattle.numbers.specs.declared.Converted.the-variants as Conversion
+use Rattle.paper.specs.declared.layings.Converted.{Converted}
+use Rattle.paper.specs.declared.layings.Converted.the-variants as Conversion
 use Rattle.reader.specs.declared.Reading.{Reading}
 use Rattle.reader.specs.declared.Reading.the-variants as Read
 use Rattle.variables.specs.declared.Checked.{Checked}
@@ -15,7 +15,7 @@ use Rattle.expressions.specs.declared.Evaluated.the-variants as Evaluation
 
 abbrev pub isConverted : Converted → Bool
 isConverted (Conversion.Written offset need free) = true
-isConverted (Conversion.Refused number need free) = false
+isConverted (Conversion.Refused number at need free) = false
 
 abbrev pub isRead : Reading → Bool
 isRead (Read.Value n) = true

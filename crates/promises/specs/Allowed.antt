@@ -4,8 +4,10 @@ use mathlib.Core.Bool.{Bool}
 use mathlib.Core.List.{List}
 use Prim.Native.Nat.{ℕ}
 use lib.ListN.{length}
-use Rattle.numbers.specs.Conversions.{answerOf, bufferOf, convertedBy}
-use Rattle.numbers.specs.declared.Converted.{Converted}
+use Rattle.paper.specs.Layings.{convertedBy}
+use Rattle.numbers.specs.Conversions.{answerOf, bufferOf}
+use Rattle.paper.specs.declared.layings.Converted.{Converted}
+use Rattle.dates.specs.Conversions.{dateAnswer, dateBuffer}
 use Rattle.reader.specs.Reading.{reading}
 use Rattle.reader.specs.declared.Reading.{Reading}
 use Rattle.variables.specs.Tables.{checked}
@@ -21,6 +23,11 @@ use Rattle.expressions.specs.declared.Evaluated.{Evaluated}
 pub record Converts (call value : ℕ) (buf : List ℕ) (r : Converted) (after : List ℕ) : Type 0 where
   pub answer : r ≡ convertedBy (answerOf call value (length buf))
   pub buffer : after ≡ bufferOf call value buf
+
+-- `convert_date`
+pub record Dates (time format buf : List ℕ) (r : Converted) (after : List ℕ) : Type 0 where
+  pub answer : r ≡ convertedBy (dateAnswer time format (length buf))
+  pub buffer : after ≡ dateBuffer time format buf
 
 -- `read_unsigned`
 pub record Reads (text : List ℕ) (whole : Bool) (limit : ℕ) (r : Reading) : Type 0 where

@@ -6,12 +6,11 @@ use mathlib.Core.Logic.{_↔_}
 use Prim.Native.Nat.{ℕ, _+_, _-_, _≤_, _<_}
 use lib.ListN.{length, take, drop}
 use Rattle.paper.specs.Answers.{in-text, Answer, refusal, GrownWhole}
-use Rattle.paper.specs.Layings.{terminator, roomFor}
+use Rattle.paper.specs.Layings.{terminator, roomFor, convertedAnswer}
 use Rattle.paper.specs.Refusals.{no-room, unknown-call}
 use Rattle.forms.specs.Strings.{Form, used, string}
 use Rattle.forms.specs.Calls.{unknown, known, described}
-use Rattle.numbers.specs.Conversions.{convertedAnswer}
-use Rattle.numbers.specs.declared.Converted.{Converted}
+use Rattle.paper.specs.declared.layings.Converted.{Converted}
 use Rattle.reader.specs.Reading.{no-limit, readNumber, readPlace, readValue}
 use Rattle.reader.specs.declared.Reading.{Reading}
 use Rattle.promises.specs.Leads.{lead}

@@ -1,4 +1,4 @@
--- That the public functions beside the six operations and `look_up_value` have one answer too, each by its own contract as a caller learns it.
+-- That the public functions beside the seven operations and `look_up_value` have one answer too, each by its own contract as a caller learns it.
 -- Those have it in their pages. `filter`'s `run` has it not: its contract leaves open what was read.
 use mathlib.Core.Path.{_≡_}
 use mathlib.Core.List.{List}
@@ -14,15 +14,18 @@ use Rattle.paper.proofs.bytes.is_word_byte.Reads as is-word-byte
 use Rattle.paper.proofs.bytes.ByteKind.has.Reads as kind-has
 use Rattle.paper.proofs.bytes.skip.Reads as skip
 use Rattle.paper.proofs.faults.Fault.number.Reads as fault-number
+use Rattle.paper.proofs.one_if.Reads as one-if
+use Rattle.paper.proofs.layings.put_if.Reads as put-if
+use Rattle.paper.proofs.layings.claim.Reads as claim
 use Rattle.forms.proofs.calls.family_of.Reads as family-of
 use Rattle.forms.proofs.counts.count_decimal.Reads as count-decimal
-use Rattle.forms.proofs.counts.one_if.Reads as one-if
 use Rattle.forms.proofs.forms.Base.shrink.Reads as base-shrink
 use Rattle.forms.proofs.forms.Base.last_glyph.Reads as base-last-glyph
 use Rattle.forms.proofs.forms.Width.bits.Reads as width-bits
 use Rattle.forms.proofs.forms.Width.low_bits.Reads as width-low-bits
 use Rattle.forms.proofs.size.number_in.Reads as number-in
 use Rattle.numbers.proofs.signed_decimal.Reads as signed-decimal
+use Rattle.calendar.proofs.moment_of.Reads as moment-of
 use Rattle.records.proofs.part.Reads as part
 use Rattle.records.proofs.name_at.Reads as name-at
 use Rattle.records.proofs.next_place.Reads as next-place
@@ -63,6 +66,7 @@ use Rattle.leaves.proofs.number.Reads as leaf-number
 use Rattle.leaves.proofs.named.Reads as leaf-named
 use Rattle.filter.proofs.answer.Reads as answer
 use Rattle.nosgoludd.proofs.conversions.nos_convert.Reads as nos-convert
+use Rattle.nosgoludd.proofs.conversions.nos_convert_date.Reads as nos-convert-date
 use Rattle.nosgoludd.proofs.readings.nos_read_unsigned.Reads as nos-read-unsigned
 use Rattle.nosgoludd.proofs.checks.nos_check_table.Reads as nos-check-table
 use Rattle.nosgoludd.proofs.lookups.nos_look_up.Reads as nos-look-up
@@ -105,10 +109,12 @@ pub record Determined : Type 0 where
   pub kind-has : One kind-has.Learnt rest answer-alone
   pub skip : One skip.Learnt (plain (lent rest)) answer-alone
   pub fault-number : One fault-number.Learnt rest answer-alone
+  pub one-if : One one-if.Learnt rest answer-alone
+  pub put-if : One put-if.Learnt (plain (plain (plain (lent rest)))) (answer-and (λ (wanted, (byte, (at, (buf, _)))). buf))
+  pub claim : One claim.Learnt (plain (plain (lent rest))) (answer-and (λ (characters, (terminated, (buf, _))). buf))
   -- forms
   pub family-of : One family-of.Learnt rest answer-alone
   pub count-decimal : One count-decimal.Learnt rest answer-alone
-  pub one-if : One one-if.Learnt rest answer-alone
   pub base-shrink : One base-shrink.Learnt rest answer-alone
   pub base-last-glyph : One base-last-glyph.Learnt rest answer-alone
   pub width-bits : One width-bits.Learnt rest answer-alone
@@ -116,6 +122,8 @@ pub record Determined : Type 0 where
   pub number-in : One number-in.Learnt rest answer-alone
   -- numbers
   pub signed-decimal : One signed-decimal.Learnt (plain (lent rest)) (answer-and (λ (value, (out, _)). out))
+  -- calendar
+  pub moment-of : One moment-of.Learnt rest answer-alone
   -- records: the answers of `part` and `name_at` are parts of the table, of which the bytes are seen
   pub part : One part.Learnt (lent rest) (λ r after. now r)
   pub name-at : One name-at.Learnt (lent rest) (λ r after. now r)
@@ -167,6 +175,7 @@ pub record Determined : Type 0 where
   pub answer : One answer.Learnt (lent (lent rest)) (answer-and (λ (text, (out, _)). out))
   -- nosgoludd
   pub nos-convert : One nos-convert.Learnt (plain (plain (lent rest))) (answer-and (λ (call, (value, (buf, _))). buf))
+  pub nos-convert-date : One nos-convert-date.Learnt (lent (lent (lent rest))) (answer-and (λ (time, (format, (buf, _))). buf))
   pub nos-read-unsigned : One nos-read-unsigned.Learnt (lent rest) answer-alone
   pub nos-check-table : One nos-check-table.Learnt (lent rest) answer-alone
   pub nos-look-up : One nos-look-up.Learnt (lent (lent (lent rest))) answer-alone

@@ -7,9 +7,9 @@ use Prim.Native.String.{String}
 use lib.IntN.{ℤ, pos, negℤ}
 use lib.ListN.{length, drop}
 use Rattle.paper.specs.Answers.{in-text, in-house, in-farm, refusal}
-use Rattle.paper.specs.Refusals.{no-room, bad-base, too-deep, allowance-spent, bad-table, bad-expression, not-an-integer}
-use Rattle.numbers.specs.Conversions.{convertedAnswer}
-use Rattle.numbers.specs.declared.Converted.{Converted}
+use Rattle.paper.specs.Refusals.{no-room, bad-base, too-deep, allowance-spent, bad-table, bad-expression, not-an-integer, over-length, bad-field}
+use Rattle.paper.specs.Layings.{convertedAnswer}
+use Rattle.paper.specs.declared.layings.Converted.{Converted}
 use Rattle.reader.specs.Reading.{no-limit, readNumber, readPlace, readValue}
 use Rattle.reader.specs.declared.Reading.{Reading}
 use Rattle.records.specs.Records.{string-kind, integer-kind}
@@ -19,7 +19,7 @@ use Rattle.gs.specs.Translations.{translatedAnswer}
 use Rattle.gs.specs.declared.Translated.{Translated}
 use Rattle.expressions.specs.Answers.{evaluatedNumber, evaluatedCounted, evaluatedPlace, evaluatedValue}
 use Rattle.expressions.specs.declared.Evaluated.{Evaluated}
-use Rattle.promises.specs.Allowed.{Converts, Reads, LooksUp, HandsBack, Translates, Evaluates}
+use Rattle.promises.specs.Allowed.{Converts, Dates, Reads, LooksUp, HandsBack, Translates, Evaluates}
 use Rattle.paper.specs.Texts.{bytes}
 
 pub data Row : Type 0 where
@@ -27,6 +27,10 @@ pub data Row : Type 0 where
   writes : (call value room : ℕ) (string : String) (offset need free : ℕ) → Row
   -- a call, a value and a room that is too small: the need
   lacks : (call value room need : ℕ) → Row
+  -- a time, a format and a room: the string, its zero byte's offset, the need, the room left
+  dates : (time : List ℕ) (format : String) (room : ℕ) (string : String) (offset need free : ℕ) → Row
+  -- the same: the refusal number, its place, and the need
+  mistakes : (time : List ℕ) (format : String) (room number place need : ℕ) → Row
   -- a text, without options: the value and the place behind it
   reads : (text : String) (value place : ℕ) → Row
   -- a text, without options: the refusal number and its place
@@ -50,6 +54,12 @@ Holds (writes call value room string offset need free) =
 Holds (lacks call value room need) =
     (buf after : List ℕ) (r : Converted) → length buf ≡ room → Converts call value buf r after
     → (convertedAnswer r ≡ record { number = no-room; counted = in-text; place = 0; need = need; free = room }) × (after ≡ buf)
+Holds (dates time format room string offset need free) =
+    (buf after : List ℕ) (r : Converted) → length buf ≡ room → Dates time (bytes format) buf r after
+    → (convertedAnswer r ≡ record { number = 0; counted = in-text; place = offset; need = need; free = free }) × (after ≡ bytes string ++ (0 ∷ drop need buf))
+Holds (mistakes time format room number place need) =
+    (buf after : List ℕ) (r : Converted) → length buf ≡ room → Dates time (bytes format) buf r after
+    → (convertedAnswer r ≡ record { number = number; counted = in-text; place = place; need = need; free = room }) × (after ≡ buf)
 Holds (reads text value place) =
     (r : Reading) → Reads (bytes text) false no-limit r → (readNumber r ≡ 0) × (readValue r ≡ value) × (readPlace r ≡ place)
 Holds (refuses text number place) =
@@ -89,6 +99,29 @@ numbered-7 = 86 ∷ 82 ∷ 1 ∷ 1 ∷ 4 ∷ bytes "a" ++ (7 ∷ 0 ∷ 0 ∷ 0 �
 -- one record: the macro m, whose value is `<a>!`
 abbrev pub naming-a : List ℕ
 naming-a = 86 ∷ 82 ∷ 2 ∷ 1 ∷ 4 ∷ bytes "m<a>!"
+
+-- times of five bytes, by their days: 28 February 1900 in its last hundredth of a second and the next day in its first, the ends of 1999
+-- and of 2000, and 29 February 2000 at 12:34:56.78
+abbrev pub february-1900 : List ℕ
+february-1900 = 255 ∷ 81 ∷ 98 ∷ 30 ∷ 0 ∷ []
+
+abbrev pub march-1900 : List ℕ
+march-1900 = 0 ∷ 82 ∷ 98 ∷ 30 ∷ 0 ∷ []
+
+abbrev pub end-of-1999 : List ℕ
+end-of-1999 = 0 ∷ 242 ∷ 195 ∷ 120 ∷ 73 ∷ []
+
+abbrev pub end-of-2000 : List ℕ
+end-of-2000 = 0 ∷ 230 ∷ 63 ∷ 53 ∷ 74 ∷ []
+
+abbrev pub february-2000 : List ℕ
+february-2000 = 14 ∷ 56 ∷ 239 ∷ 151 ∷ 73 ∷ []
+
+abbrev pub first-time : List ℕ
+first-time = 0 ∷ 0 ∷ 0 ∷ 0 ∷ 0 ∷ []
+
+abbrev pub last-time : List ℕ
+last-time = 255 ∷ 255 ∷ 255 ∷ 255 ∷ 255 ∷ []
 
 -- P1 to P15, P13 once over each table, and some more of the paper's table
 abbrev pub examples : List Row
@@ -147,4 +180,25 @@ examples =
     ∷ stops "xy<a>" [] selfNaming 3 9 allowance-spent in-text 2
     -- a zero divisor before a bracket that is missing
     ∷ fails "1/0+(" [] [] 0 bad-expression in-text 5
+    -- the first time of the diaries and the last
+    ∷ dates first-time "%24:%MI:%SE.%CS %W3 %DY %M3 %CE%YR" 28 "00:00:00.00 Mon 01 Jan 1900" 27 28 1
+    ∷ dates last-time "%24:%MI:%SE.%CS %W3 %DY %M3 %CE%YR" 40 "06:57:57.75 Sat 03 Jun 2248" 27 28 13
+    -- 2000 has a 29 February, and 1900 has none
+    ∷ dates february-2000 "%CE%YR-%MN-%DY %24:%MI:%SE.%CS" 23 "2000-02-29 12:34:56.78" 22 23 1
+    ∷ dates february-1900 "%24:%MI:%SE.%CS %W3 %DY %M3 %CE%YR" 28 "23:59:59.99 Wed 28 Feb 1900" 27 28 1
+    ∷ dates march-1900 "%24:%MI:%SE.%CS %W3 %DY %M3 %CE%YR" 28 "00:00:00.00 Thu 01 Mar 1900" 27 28 1
+    -- so that a year's last day is its 366th or its 365th
+    ∷ dates end-of-2000 "%DN" 4 "366" 3 4 1
+    ∷ dates end-of-1999 "%DN" 4 "365" 3 4 1
+    -- pairs are decided from the left
+    ∷ dates first-time "%%CS" 4 "%CS" 3 4 1
+    ∷ mistakes first-time "%%%" 0 bad-field 2 0
+    -- names are in capitals, and whole
+    ∷ mistakes first-time "%cs" 9 bad-field 0 0
+    ∷ mistakes first-time "%CS%C" 9 bad-field 3 0
+    -- a room that is one too small, and an empty format, whose zero byte alone takes room
+    ∷ mistakes first-time "%CS" 2 no-room 0 3
+    ∷ dates first-time "" 1 "" 0 1 1
+    -- a time of four bytes is told before its format is read
+    ∷ mistakes (0 ∷ 0 ∷ 0 ∷ 0 ∷ []) "%cs" 9 over-length 0 0
     ∷ []

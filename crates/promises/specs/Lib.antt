@@ -5,6 +5,7 @@ pub mod Leads
 pub mod Ties
 pub mod Examples
 pub mod Conversions
+pub mod Dates
 pub mod Readings
 pub mod TwoTables
 pub mod Lookups

@@ -2,6 +2,7 @@
 use Rattle.promises.specs.Ties as Ties
 use Rattle.promises.specs.Examples.{All, examples}
 use Rattle.promises.specs.Conversions as Conversions
+use Rattle.promises.specs.Dates as Dates
 use Rattle.promises.specs.Readings as Readings
 use Rattle.promises.specs.TwoTables as TwoTables
 use Rattle.promises.specs.Lookups as Lookups
@@ -24,6 +25,20 @@ pub record Promises : Type 0 where
   pub convert-reads-back : Conversions.ReadsBack
   pub convert-larger-room : Conversions.LargerRoom
   pub convert-second-ask : Conversions.SecondAsk
+  -- `convert_date`
+  pub date-tied : Ties.ConvertDate
+  pub date-one-answer : Dates.OneAnswer
+  pub date-accepts : Dates.Accepts
+  pub date-refusals : Dates.Refusals
+  pub date-exact : Dates.Exact
+  pub date-offset-and-free : Dates.OffsetAndFree
+  pub date-bad-field : Dates.BadField
+  pub date-bytes : Dates.Bytes
+  pub date-larger-room : Dates.LargerRoom
+  pub date-second-ask : Dates.SecondAsk
+  pub date-need-by-format : Dates.NeedByFormat
+  pub date-of-a-day : Dates.OfADay
+  pub date-leap-years : Dates.LeapYears
   -- `read_unsigned`
   pub read-tied : Ties.ReadUnsigned
   pub read-one-answer : Readings.OneAnswer
@@ -86,6 +101,7 @@ pub record Promises : Type 0 where
   pub evaluate-spent : Evaluations.Spent
   -- the C face, and the program
   pub nos-convert-tied : Ties.NosConvert
+  pub nos-convert-date-tied : Ties.NosConvertDate
   pub nos-read-unsigned-tied : Ties.NosReadUnsigned
   pub nos-check-table-tied : Ties.NosCheckTable
   pub nos-look-up-tied : Ties.NosLookUp

@@ -9,7 +9,8 @@ use lib.ListN.{length, drop}
 use contract.Lifetimes.{Lfts}
 use denote.Ref.{RefT, now}
 use Rattle.numbers.proofs.convert.Reads as convert
-use Rattle.numbers.specs.declared.Converted.{Converted}
+use Rattle.paper.specs.declared.layings.Converted.{Converted}
+use Rattle.dates.proofs.convert_date.Reads as convert-date
 use Rattle.reader.proofs.read_unsigned.Reads as read-unsigned
 use Rattle.reader.specs.declared.Reading.{Reading}
 use Rattle.variables.proofs.check_table.Reads as check-table
@@ -22,11 +23,12 @@ use Rattle.gs.specs.declared.Translated.{Translated}
 use Rattle.symbols.specs.declared.flags.Flags.{Flags}
 use Rattle.expressions.proofs.evaluate.Reads as evaluate
 use Rattle.expressions.specs.declared.Evaluated.{Evaluated}
-use Rattle.numbers.specs.Conversions.{convertedAnswer}
+use Rattle.paper.specs.Layings.{convertedAnswer}
 use Rattle.gs.specs.Translations.{translatedAnswer}
 use Rattle.filter.proofs.answer.Reads as program
 use Rattle.filter.specs.Answers.{answerTo}
 use Rattle.nosgoludd.proofs.conversions.nos_convert.Reads as nos-convert
+use Rattle.nosgoludd.proofs.conversions.nos_convert_date.Reads as nos-convert-date
 use Rattle.nosgoludd.proofs.readings.nos_read_unsigned.Reads as nos-read-unsigned
 use Rattle.nosgoludd.proofs.checks.nos_check_table.Reads as nos-check-table
 use Rattle.nosgoludd.proofs.lookups.nos_look_up.Reads as nos-look-up
@@ -38,12 +40,17 @@ use Rattle.nosgoludd.specs.declared.readings.NosNumber.{NosNumber}
 use Rattle.nosgoludd.specs.declared.checks.NosChecked.{NosChecked}
 use Rattle.nosgoludd.specs.declared.lookups.NosVariable.{NosVariable}
 use Rattle.nosgoludd.specs.declared.evaluations.NosValue.{NosValue}
-use Rattle.promises.specs.Allowed.{Converts, Reads, Checks, LooksUp, HandsBack, Translates, Evaluates}
+use Rattle.promises.specs.Allowed.{Converts, Dates, Reads, Checks, LooksUp, HandsBack, Translates, Evaluates}
 
 abbrev pub Convert : Type 0
 Convert =
     (κs : Lfts 1) (call value : ℕ) (buf after : RefT (List ℕ)) (r : Converted)
     → convert.Learnt κs (call, (value, (buf, tt))) r (call, (value, (after, tt))) → Converts call value (now buf) r (now after)
+
+abbrev pub ConvertDate : Type 0
+ConvertDate =
+    (κs : Lfts 3) (time format buf after : RefT (List ℕ)) (r : Converted)
+    → convert-date.Learnt κs (time, (format, (buf, tt))) r (time, (format, (after, tt))) → Dates (now time) (now format) (now buf) r (now after)
 
 abbrev pub ReadUnsigned : Type 0
 ReadUnsigned =
@@ -84,6 +91,17 @@ abbrev pub NosConvert : Type 0
 NosConvert =
     (κs : Lfts 1) (call value : ℕ) (buf after : RefT (List ℕ)) (r : NosAnswer)
     → nos-convert.Learnt κs (call, (value, (buf, tt))) r (call, (value, (after, tt))) → FaceConverts call value (now buf) r (now after)
+
+pub record FaceDates (time format buf : List ℕ) (r : NosAnswer) (after : List ℕ) : Type 0 where
+  pub answer : Converted
+  pub allowed : Dates time format buf answer after
+  pub face : r ≡ answerFace (convertedAnswer answer)
+
+abbrev pub NosConvertDate : Type 0
+NosConvertDate =
+    (κs : Lfts 3) (time format buf after : RefT (List ℕ)) (r : NosAnswer)
+    → nos-convert-date.Learnt κs (time, (format, (buf, tt))) r (time, (format, (after, tt)))
+    → FaceDates (now time) (now format) (now buf) r (now after)
 
 -- whole is off at 0 and on at every other number
 pub record FaceReads (text : List ℕ) (whole limit : ℕ) (r : NosNumber) : Type 0 where
@@ -145,6 +163,7 @@ ProgramAnswer =
 -- nothing is asked of any argument
 pub record Any : Type 0 where
   pub convert : (κs : Lfts 1) (call value : ℕ) (buf : RefT (List ℕ)) → convert.Asked κs (call, (value, (buf, tt)))
+  pub convert-date : (κs : Lfts 3) (time format buf : RefT (List ℕ)) → convert-date.Asked κs (time, (format, (buf, tt)))
   pub read-unsigned : (κs : Lfts 1) (text : RefT (List ℕ)) (whole : Bool) (limit : ℕ) → read-unsigned.Asked κs (text, (whole, (limit, tt)))
   pub check-table : (κs : Lfts 1) (table : RefT (List ℕ)) → check-table.Asked κs (table, tt)
   pub look-up : (κs : Lfts 2) (farm house name : RefT (List ℕ)) → look-up.Asked κs (farm, (house, (name, tt)))
@@ -153,6 +172,7 @@ pub record Any : Type 0 where
       → translate.Asked κs (text, (farm, (house, (flags, (allowance, (out, tt))))))
   pub evaluate : (κs : Lfts 2) (text farm house : RefT (List ℕ)) (allowance : ℕ) → evaluate.Asked κs (text, (farm, (house, (allowance, tt))))
   pub nos-convert : (κs : Lfts 1) (call value : ℕ) (buf : RefT (List ℕ)) → nos-convert.Asked κs (call, (value, (buf, tt)))
+  pub nos-convert-date : (κs : Lfts 3) (time format buf : RefT (List ℕ)) → nos-convert-date.Asked κs (time, (format, (buf, tt)))
   pub nos-read-unsigned : (κs : Lfts 1) (text : RefT (List ℕ)) (whole limit : ℕ) → nos-read-unsigned.Asked κs (text, (whole, (limit, tt)))
   pub nos-check-table : (κs : Lfts 1) (table : RefT (List ℕ)) → nos-check-table.Asked κs (table, tt)
   pub nos-look-up : (κs : Lfts 2) (name farm house : RefT (List ℕ)) → nos-look-up.Asked κs (name, (farm, (house, tt)))
