@@ -1,5 +1,6 @@
 //! The answer to a case, as a line of the line format.
 
+use crate::dates::{self, Dated, Undated};
 use crate::expressions::{self, Value};
 use crate::gs::{self, Flags, Translated};
 use crate::lines::{hex, Case};
@@ -26,6 +27,7 @@ pub fn answer(case: &Case) -> String {
             tables,
             allowance,
         } => eval(text, tables, *allowance),
+        Case::Date { time, format, room } => date(time, format, *room),
     }
 }
 
@@ -87,7 +89,18 @@ fn eval(text: &[u8], tables: &LentTables, allowance: u32) -> String {
     }
 }
 
-/// A refusal of an operation that reads only one slice.
+fn date(time: &[u8], format: &[u8], room: usize) -> String {
+    match dates::convert(time, format, room) {
+        Ok(Dated {
+            string,
+            offset,
+            free,
+        }) => format!("ok {} {offset} {free}", hex(&string)),
+        Err(Undated { refused, need }) => format!("{} {need} {room}", no(refused)),
+    }
+}
+
+/// A refusal of an operation whose places are all counted in one slice.
 fn no(refused: Refused) -> String {
     format!("no {} {}", refused.refusal.number(), refused.place)
 }
@@ -153,6 +166,11 @@ mod tests {
             ("eval 69 - 565200010049 1", "no 17 t 0"),
             ("eval 312f302b28 - - 0", "no 15 t 5"),
             ("eval - 56 - 0", "no 13 f 0"),
+            ("date 0000000000 2557332c 7", "ok 4d6f6e2c 4 3"),
+            ("date 0000000000 2557332c 4", "no 1 0 5 4"),
+            ("date 0000000000 2c257733 9", "no 19 1 0 9"),
+            ("date 00000000 257733 9", "no 18 0 0 9"),
+            ("date ffffffffff - 1", "ok - 0 1"),
         ] {
             let case = parse(line).expect(line);
             assert_eq!(answer(&case), expected, "{line}");

@@ -1,5 +1,6 @@
 //! Cases to answer: for each operation its fixed edge cases first, then random ones.
 
+mod dates;
 mod expressions;
 mod forms;
 mod gs;
@@ -11,10 +12,12 @@ mod tables;
 mod values;
 mod variables;
 
+pub use dates::calendar;
+
 use crate::lines::Case;
 use crate::random::Random;
 
-/// One of the six operations, with where its cases come from.
+/// One of the seven operations, with where its cases come from.
 #[derive(Clone, Copy)]
 pub struct Operation {
     name: &'static str,
@@ -22,7 +25,7 @@ pub struct Operation {
     random: fn(&mut Random) -> Case,
 }
 
-pub const OPERATIONS: [Operation; 6] = [
+pub const OPERATIONS: [Operation; 7] = [
     Operation {
         name: "conv",
         fixed: numbers::fixed,
@@ -52,6 +55,11 @@ pub const OPERATIONS: [Operation; 6] = [
         name: "eval",
         fixed: expressions::fixed,
         random: expressions::random,
+    },
+    Operation {
+        name: "date",
+        fixed: dates::fixed,
+        random: dates::random,
     },
 ];
 
@@ -104,7 +112,7 @@ mod tests {
         };
         assert_eq!(
             OPERATIONS.map(|operation| share(operation.name)),
-            [4, 4, 3, 3, 3, 3]
+            [3, 3, 3, 3, 3, 3, 2]
         );
     }
 
@@ -115,16 +123,17 @@ mod tests {
         match words.next() {
             Some("no") => {
                 let number = words.next().expect("a refusal number");
-                let slice = words.next().filter(in_slice).unwrap_or_default();
-                format!("no {number} {slice}")
+                let slice = words.next().filter(in_slice);
+                let named = |slice: &str| format!("no {number} {slice}");
+                slice.map_or(format!("no {number}"), named)
             }
             Some("rec") => format!("rec {}", words.next().expect("a table")),
             word => word.unwrap_or_default().to_owned(),
         }
     }
 
-    /// Every kind of answer that an operation with two tables can give.
-    const KINDS: [(&str, &[&str]); 3] = [
+    /// Every kind of answer that an operation with two tables or with a format can give.
+    const KINDS: [(&str, &[&str]); 4] = [
         (
             "look",
             &[
@@ -145,6 +154,7 @@ mod tests {
                 "no 4 t", "no 10 t", "no 11 t", "no 12 t", "no 15 t", "no 16 t", "no 17 t",
             ],
         ),
+        ("date", &["ok", "no 18", "no 19", "no 1"]),
     ];
 
     #[test]

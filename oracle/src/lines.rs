@@ -4,7 +4,7 @@ use crate::variables::LentTables;
 use std::fmt::{self, Display, Formatter};
 use std::str::{FromStr, Split};
 
-/// One case of one of the six operations.
+/// One case of one of the seven operations.
 #[derive(Debug, PartialEq, Eq)]
 pub enum Case {
     Conv {
@@ -35,6 +35,11 @@ pub enum Case {
         text: Vec<u8>,
         tables: LentTables,
         allowance: u32,
+    },
+    Date {
+        time: Vec<u8>,
+        format: Vec<u8>,
+        room: usize,
     },
 }
 
@@ -86,6 +91,9 @@ impl Display for Case {
                 let (text, tables) = (hex(text), both_in_hex(tables));
                 write!(out, "eval {text} {tables} {allowance}")
             }
+            Case::Date { time, format, room } => {
+                write!(out, "date {} {} {room}", hex(time), hex(format))
+            }
         }
     }
 }
@@ -121,6 +129,11 @@ pub fn parse(line: &str) -> Result<Case, String> {
             text: fields.bytes("text")?,
             tables: fields.tables()?,
             allowance: fields.number("allowance")?,
+        },
+        "date" => Case::Date {
+            time: fields.bytes("time")?,
+            format: fields.bytes("format")?,
+            room: fields.number("room")?,
         },
         other => return Err(format!("unknown operation {other:?}")),
     };
@@ -230,6 +243,8 @@ mod tests {
             "look - 56520001016178 41",
             "trans 3c413e62 5652 56520001016178 x 4294967295 1 2",
             "eval 00ff - 01 4294967295",
+            "date 0102030405 25435300 3",
+            "date - - 0",
         ] {
             assert_eq!(parse(line).expect(line).to_string(), line);
         }
@@ -243,6 +258,8 @@ mod tests {
             "read 30 1 x", "Table -", "table -\r", "table - -", "look - 41", "look - - - -",
             "trans - - 0 0 0", "trans - - - 0 0 0", "trans - - - - 0 0 0", "trans - - - X 0 0 0",
             "trans - - - 00 0 0 0", "trans - - x 0 0 0", "eval 31 - 0", "eval 31 - - x 0",
+            "date - -", "date - 0", "date - - 0 0", "date  - 0", "date - - -", "date 0 - 0",
+            "date 00 25C3 0",
         ] {
             assert!(parse(line).is_err(), "{line:?}");
         }

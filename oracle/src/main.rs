@@ -2,6 +2,7 @@
 
 mod answers;
 mod cases;
+mod dates;
 mod expressions;
 mod gs;
 mod lines;
@@ -13,12 +14,15 @@ mod tokens;
 mod variables;
 
 use cases::{operation, Operation, OPERATIONS};
+use lines::Case;
 use std::io::{self, BufRead, BufWriter, Write};
 use std::process::ExitCode;
 
 const USAGE: &str = "usage: oracle answer < CASES
        oracle cases SEED COUNT [OP ..]
-OP is one of: conv read table look trans eval (none named: all six)";
+       oracle calendar
+OP is one of: conv read table look trans eval date (none named: all seven)
+calendar gives the cases of every day that a time falls on";
 
 fn main() -> ExitCode {
     let arguments: Vec<String> = std::env::args().skip(1).collect();
@@ -27,10 +31,13 @@ fn main() -> ExitCode {
         ["answer"] => answer_all(),
         ["cases", seed, count, ref names @ ..] => {
             match numbers_and_operations(seed, count, names) {
-                Some((seed, count, operations)) => write_cases(seed, count, &operations),
+                Some((seed, count, operations)) => {
+                    write_cases(cases::cases(seed, count, &operations))
+                }
                 None => return wrong_usage(),
             }
         }
+        ["calendar"] => write_cases(cases::calendar()),
         _ => return wrong_usage(),
     };
     match done {
@@ -60,9 +67,9 @@ fn numbers_and_operations(
     Some((seed.parse().ok()?, count.parse().ok()?, operations))
 }
 
-fn write_cases(seed: u64, count: usize, operations: &[Operation]) -> io::Result<()> {
+fn write_cases(cases: impl Iterator<Item = Case>) -> io::Result<()> {
     let mut out = BufWriter::new(io::stdout().lock());
-    for case in cases::cases(seed, count, operations) {
+    for case in cases {
         writeln!(out, "{case}")?;
     }
     out.flush()

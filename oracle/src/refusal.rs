@@ -24,6 +24,7 @@ pub enum Refusal {
     ZeroDivisor = 16,
     NotInteger = 17,
     OverLong = 18,
+    BadField = 19,
 }
 
 impl Refusal {

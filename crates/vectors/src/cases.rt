@@ -1,5 +1,6 @@
 // One case: the form of its line says for which operation.
 mod conv;
+mod date;
 mod eval;
 mod look;
 mod read;
@@ -28,11 +29,14 @@ const TRANS: usize = 4;
 
 const EVAL: usize = 5;
 
+const DATE: usize = 6;
+
 // The operation that a line asks for: the number of the form that it fits, and one more than all where it is no case.
 fn asked(line: &[u8]) -> usize {
-    let forms = b"conv N N R,read B F L,table B,look B B B,trans B B B x N N R,eval B B B N";
+    let forms =
+        b"conv N N R,read B F L,table B,look B B B,trans B B B x N N R,eval B B B N,date B B R";
     let mut operation = CONV;
-    while operation <= EVAL {
+    while operation <= DATE {
         if fields::fit(line, slices::piece(forms, b',', operation)) {
             return operation;
         }
@@ -67,6 +71,7 @@ fn run<'a>(line: &[u8], first: &'a [u8], second: &'a [u8], third: &'a [u8], lent
         LOOK => look::answer(first, second, third),
         TRANS => trans::answer(line, first, second, third, lent),
         EVAL => eval::answer(line, first, second, third),
+        DATE => date::answer(line, first, second, lent),
         _ => answers::bad_line(),
     }
 }

@@ -4,7 +4,7 @@ use crate::fields;
 use crate::frame;
 use crate::frame::FILLER;
 use crate::slices;
-use numbers::Converted;
+use paper::layings::Converted;
 
 pub(crate) fn answer(line: &[u8], lent: &mut [u8]) {
     let call = fields::number(line, 1);
@@ -14,14 +14,20 @@ pub(crate) fn answer(line: &[u8], lent: &mut [u8]) {
     show(converted, frame::framed(lent, room));
 }
 
-fn show(converted: Converted, framed: &[u8]) {
+// The answer to a conversion, of a number or of a date.
+pub(crate) fn show(converted: Converted, framed: &[u8]) {
     match converted {
         Converted::Written {
             offset,
             need: _,
             free,
         } => written(offset, free, framed),
-        Converted::Refused { number, need, free } => refused(number, need, free, framed),
+        Converted::Refused {
+            number,
+            at,
+            need,
+            free,
+        } => refused(number, at.0, need, free, framed),
     }
 }
 
@@ -34,10 +40,9 @@ fn written(offset: usize, free: usize, framed: &[u8]) {
     frame::watch(slices::part(framed, offset, framed.len()), 0);
 }
 
-// `no N 0 NEED FREE`: a conversion has no place to name.
-fn refused(number: u8, need: usize, free: usize, framed: &[u8]) {
-    answers::refusal(number);
-    answers::number(0);
+// `no N PLACE NEED FREE`
+fn refused(number: u8, place: usize, need: usize, free: usize, framed: &[u8]) {
+    answers::refusal_at(number, place);
     answers::number(need);
     answers::number(free);
     frame::watch(framed, FILLER);
