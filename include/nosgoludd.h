@@ -1,5 +1,5 @@
-/* Nosgoludd: numbers to strings, numbers read from texts, variables in two tables, texts that name them, and expressions, whole or
- * refused.
+/* Nosgoludd: numbers and dates to strings, numbers read from texts, variables in two tables, texts that name them, and expressions,
+ * whole or refused.
  *
  * An office certifies organic farms from old diaries. Once a quantity fell across the end of a 1,048,576-byte buffer, the
  * conversion cut it, and the rows behind it were never seen. So a conversion or a translation comes whole, or it is refused and
@@ -12,11 +12,11 @@
  *
  * What the proof asks of you: a pointer points to as many bytes as the room or length behind it says, which may be read, and for
  * buf and out written. Nothing else (a thread, a shared mapping) writes any of them before the call returns, nor reads those of
- * buf and out; out overlaps neither text nor tables. With a room or a length of 0 the pointer is not used and may be NULL: the
- * compiled code was looked at for that, and examples/c runs every one so.
+ * buf and out; out overlaps neither text nor tables, and buf neither time nor format. With a room or a length of 0 the pointer is not
+ * used and may be NULL: the compiled code was looked at for that, and examples/c runs every one so.
  *
- * What no proof can ask for you: give the true length of a text or a table, as long as it is. What is over 65,535 bytes is refused,
- * by 18. A length that you clamp to 65,535 makes the library read a cut text as if it were whole.
+ * What no proof can ask for you: give the true length of a text, a format or a table, as long as it is. What is over 65,535 bytes is
+ * refused, by 18. A length that you clamp to 65,535 makes the library read a cut text as if it were whole.
  *
  * THE ANSWER is a struct that the function returns, so that a refusal writes nothing anywhere. `number` is 0 where accepted, and
  * else that of the refusal; nos_words has it in words. A place is counted in bytes from 0, and `counted` says in what. Where
@@ -31,16 +31,17 @@
 #include <stdint.h>
 
 #define NOS_STACK 49152u          /* the most bytes of stack that a call takes */
-#define NOS_LONGEST 65535u        /* the longest text or table that is read, in bytes */
+#define NOS_LONGEST 65535u        /* the longest text, format or table that is read, in bytes */
+#define NOS_TIME 5u               /* the bytes of a time */
 #define NOS_NO_LIMIT 4294967295u  /* a limit that refuses nothing */
 
 #ifdef __cplusplus
 extern "C" {
 #endif
 
-/* One numbering for the whole library. nos_convert refuses by 14 and 1, nos_read_unsigned by 18, 3, 2, 4, 5 and 6, nos_check_table
- * by 18 and 13, nos_look_up by 18, 13 and 10, nos_translate by 18, 13, 9, 4, 10, 11, 12, 7, 8 and 1, nos_evaluate by 18, 13, 15, 11,
- * 2, 3, 4, 10, 17, 12 and 16. */
+/* One numbering for the whole library. nos_convert refuses by 14 and 1, nos_convert_date by 18, 19 and 1, nos_read_unsigned by 18, 3,
+ * 2, 4, 5 and 6, nos_check_table by 18 and 13, nos_look_up by 18, 13 and 10, nos_translate by 18, 13, 9, 4, 10, 11, 12, 7, 8 and 1,
+ * nos_evaluate by 18, 13, 15, 11, 2, 3, 4, 10, 17, 12 and 16. */
 enum nos_refusal {
     NOS_ACCEPTED = 0,
     NOS_NO_ROOM = 1,
@@ -60,7 +61,8 @@ enum nos_refusal {
     NOS_BAD_EXPRESSION = 15,
     NOS_ZERO_DIVISOR = 16,
     NOS_NOT_AN_INTEGER = 17,
-    NOS_OVER_LENGTH = 18
+    NOS_OVER_LENGTH = 18, /* of a time: not five bytes */
+    NOS_BAD_FIELD = 19
 };
 
 /* A refusal in words. */
@@ -85,19 +87,20 @@ static inline const char *nos_words(uint32_t number)
         "Bad expression",
         "Zero divisor",
         "Not an integer variable",
-        "Text or table over 65,535 bytes",
+        "Text or table over 65,535 bytes, or a time not of five",
+        "Bad field",
     };
     return number < sizeof words / sizeof words[0] ? words[number] : "No such refusal";
 }
 
 /* What a place is counted in. Where a struct has no `counted` there is but one thing that it can be. */
 enum nos_counting {
-    NOS_IN_THE_TEXT = 0,  /* the text or the name; nos_convert, which has neither, always gives it */
+    NOS_IN_THE_TEXT = 0,  /* the text, the name, the format or the time; nos_convert, which has none, always gives it */
     NOS_IN_THE_HOUSE = 1, /* the house table */
     NOS_IN_THE_FARM = 2   /* the farm's own table */
 };
 
-/* Of nos_convert and nos_translate. */
+/* Of nos_convert, nos_convert_date and nos_translate. */
 struct nos_answer {
     uint32_t number, counted;
     size_t place, need, free;
@@ -169,6 +172,44 @@ enum nos_call {
  *   nos_convert(NOS_UNSIGNED_1, 1048576, buf, 2)    "0": the low byte alone is used
  */
 struct nos_answer nos_convert(uint32_t call, uint32_t value, uint8_t *buf, size_t room);
+
+/* Writes a time as a string by a format, with a zero byte behind it, to the start of buf, as call &C1 does. nos_convert does not take
+ * &C1: to it that is an unknown call.
+ *
+ *   time     five bytes, the lowest first: hundredths of a second since 00:00:00 on 1 January 1900, a Monday. All of them are times;
+ *            the largest is 06:57:57.75 on 3 June 2248. 1900, 2100 and 2200 have no 29 February
+ *   format   ends at its first zero byte or at its length. Bytes behind that end are not read, but count for the length. A percent sign
+ *            and the two bytes behind it are a field, "%%" gives one percent sign, and every other byte, 10 and 13 too, gives itself
+ *
+ *   field       gives                               field       gives
+ *   %CS         hundredths, 00 to 99                %MN         month, 01 to 12
+ *   %SE         seconds, 00 to 59                   %M3         month, Jan Feb Mar Apr May Jun Jul Aug Sep Oct Nov Dec
+ *   %MI         minutes, 00 to 59                   %CE         the year over 100, 19 to 22: of 1989 it is 19
+ *   %24         hours, 00 to 23                     %YR         the year's last two digits, 00 to 99
+ *   %DY         day of the month, 01 to 31          %DN         day of the year, 001 to 366
+ *   %W3         day of the week, Mon Tue Wed Thu Fri Sat Sun
+ * Fields are read from the left, so "%%CS" gives "%CS". Bad: whatever else stands behind a percent sign, the book's other fields and
+ * small letters among it, and the format's end there or one byte behind it.
+ *
+ * The need goes by the format alone, not by the time: one ask serves a whole column of dates. It is at most the format's length and 1.
+ *   accepted   place: the offset of the zero byte in buf. need: the bytes written, the zero byte with them, so one more than the place.
+ *              free: room - place, so the zero byte counts as free. Bytes of buf behind the zero byte stay as they were
+ *   refused    free: the room, and every byte of buf stays as it was. The first of these that holds:
+ *              18 NOS_OVER_LENGTH   the format is longer than 65,535 bytes, or the time is not five; place 0, need 0
+ *              19 NOS_BAD_FIELD     the percent sign of the leftmost bad field, in the format; need 0
+ *               1 NOS_NO_ROOM       the room is less than the need, which is in the answer; place 0
+ * counted is always 0.
+ *
+ * With the five bytes 48 7E 2A 91 41 (in hex), 13:25:54.00 on Tuesday 28 March 1989:
+ *   %W3,%DY %M3 %CE%YR.%24:%MI:%SE    "Tue,28 Mar 1989.13:25:54", place 24, need 25
+ *   day %DN, 100%%                    "day 087, 100%", place 13, need 14
+ *   %CE%YR-%MN-%DY, room 11           "1989-03-28", place 10, need 11, free 1
+ *   %CE%YR-%MN-%DY, room 10           refused 1, need 11, free 10, buf as it was
+ *   %DY.%mn.%12                       refused 19 at 4
+ *   100%                              refused 19 at 3
+ */
+struct nos_answer nos_convert_date(const uint8_t *time, size_t time_length, const uint8_t *format, size_t format_length, uint8_t *buf,
+                                   size_t room);
 
 /* Reads one unsigned number at the start of a text. Spaces (byte 32 alone) are skipped; then stands
  *

@@ -1,9 +1,10 @@
-/* Answers cases through the C face: a line of case in, a line of answer out, both as the oracle has them. tests/fuzz runs it.
+/* Answers cases through the C face: a line of case in, a line of answer out, both as the oracle has them. tests/fuzz and tests/calendar
+ * run it.
  *
  * Whatever is lent is watched. A slice stands, in turn, between known bytes, or at the start or the end of an area where an
  * unreadable page begins: a byte read or written there ends this program. An answer has " touched" behind it where a byte changed
- * that must not: in a text or a table, beside a slice, in a buffer behind what was written, or anywhere in one after a refusal. It
- * has " odd" behind it where a field of the answer that the line does not show is not as the header says. */
+ * that must not: in what was lent to be read, beside a slice, in a buffer behind what was written, or anywhere in one after a refusal.
+ * It has " odd" behind it where a field of the answer that the line does not show is not as the header says. */
 #define _GNU_SOURCE
 #include <inttypes.h>
 #include <stdbool.h>
@@ -23,7 +24,8 @@ struct area {
     const char *digits; /* what was lent to be read, in hex; NULL for a buffer */
 };
 
-static struct area text, farm, house, buffer; /* a name is lent as a text, and a table that is alone as the house's */
+/* A name or a format is lent as a text, and a table that is alone as the house's. */
+static struct area text, farm, house, moment, buffer;
 static uint8_t known[AREA + TURNS]; /* the known bytes, read from another place for each case */
 static size_t turn;
 
@@ -160,6 +162,22 @@ static bool end_line(bool whole, bool as_said)
     return true;
 }
 
+/* The line of a string with a zero byte behind it; `whole` says whether what was lent to be read still is. */
+static bool end_string(struct nos_answer answer, bool whole)
+{
+    bool as_said = answer.counted == NOS_IN_THE_TEXT;
+    if (answer.number != NOS_ACCEPTED) {
+        printf("no %" PRIu32 " %zu %zu %zu", answer.number, answer.place, answer.need, answer.free);
+        return end_line(whole && is_whole_behind(&buffer, 0), as_said);
+    }
+    if (answer.place >= buffer.length) return end_line(false, false);
+    printf("ok ");
+    put_hex(buffer.lent, answer.place);
+    printf(" %zu %zu", answer.place, answer.free);
+    as_said = as_said && buffer.lent[answer.place] == 0 && answer.need == answer.place + 1;
+    return end_line(whole && is_whole_behind(&buffer, answer.place + 1), as_said);
+}
+
 /* Each operation writes the line of answer, or answers false for a line that is no case. */
 
 static bool conv(struct line line)
@@ -167,18 +185,18 @@ static bool conv(struct line line)
     uint32_t call = take_number(&line), value = take_number(&line), room = take_number(&line);
     if (!is_done(&line) || room > MOST_ROOM) return false;
     lend(&buffer, room);
-    struct nos_answer answer = nos_convert(call, value, lent_by(&buffer), room);
-    bool as_said = answer.counted == NOS_IN_THE_TEXT;
-    if (answer.number != NOS_ACCEPTED) {
-        printf("no %" PRIu32 " %zu %zu %zu", answer.number, answer.place, answer.need, answer.free);
-        return end_line(is_whole_behind(&buffer, 0), as_said);
-    }
-    if (answer.place >= room) return end_line(false, false);
-    printf("ok ");
-    put_hex(buffer.lent, answer.place);
-    printf(" %zu %zu", answer.place, answer.free);
-    as_said = as_said && buffer.lent[answer.place] == 0 && answer.need == answer.place + 1;
-    return end_line(is_whole_behind(&buffer, answer.place + 1), as_said);
+    return end_string(nos_convert(call, value, lent_by(&buffer), room), true);
+}
+
+static bool date(struct line line)
+{
+    take_bytes(&line, &moment);
+    take_bytes(&line, &text);
+    uint32_t room = take_number(&line);
+    if (!is_done(&line) || room > MOST_ROOM) return false;
+    lend(&buffer, room);
+    struct nos_answer answer = nos_convert_date(lent_by(&moment), moment.length, lent_by(&text), text.length, lent_by(&buffer), room);
+    return end_string(answer, is_whole(&moment) && is_whole(&text));
 }
 
 static bool read_number(struct line line)
@@ -309,7 +327,8 @@ static bool eval(struct line line)
 static bool answer_line(const char *line)
 {
     static const struct { const char *word; bool (*answer)(struct line); } operations[] = {
-        {"conv ", conv}, {"read ", read_number}, {"table ", check}, {"look ", look}, {"trans ", trans}, {"eval ", eval},
+        {"conv ", conv}, {"date ", date}, {"read ", read_number}, {"table ", check}, {"look ", look}, {"trans ", trans},
+        {"eval ", eval},
     };
     for (size_t i = 0; i < sizeof operations / sizeof operations[0]; i++) {
         size_t length = strlen(operations[i].word);
@@ -323,6 +342,7 @@ int main(void)
     make_area(&text);
     make_area(&farm);
     make_area(&house);
+    make_area(&moment);
     make_area(&buffer);
     for (size_t i = 0; i < sizeof known; i++) known[i] = (uint8_t)(0x5A + i * 167 + i / 256 * 59);
     setvbuf(stdout, NULL, _IOLBF, 1 << 16); /* so that the last answer shows which case ended the program */

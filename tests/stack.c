@@ -61,6 +61,16 @@ static void conversions(void)
     expect(nos_convert(NOS_BINARY_4, 0, out, 32).number, NOS_NO_ROOM);
 }
 
+static void dates(void)
+{
+    static const uint8_t times[][NOS_TIME] = {{0, 0, 0, 0, 0}, {255, 255, 255, 255, 255}};
+    static const uint8_t format[] = "%CS%SE%MI%24%DY%MN%CE%YR%DN%M3%W3%%, and so on with more than sixteen bytes", bad[] = "%CS%cs";
+    for (size_t i = 0; i < sizeof times / sizeof times[0]; i++)
+        expect(nos_convert_date(times[i], NOS_TIME, format, sizeof format - 1, out, 128).number, 0);
+    expect(nos_convert_date(times[0], NOS_TIME, format, sizeof format - 1, out, 9).number, NOS_NO_ROOM);
+    expect(nos_convert_date(times[0], NOS_TIME, bad, sizeof bad - 1, out, 128).number, NOS_BAD_FIELD);
+}
+
 static void readings(void)
 {
     static const char *const numbers[] = {"  36_Zzzzz", "&FFFFFFFF", "4294967295", "4294967296", "37_1", "_"};
@@ -184,6 +194,7 @@ int main(void)
     make_tables();
     measure("nothing", nothing);
     measure("nos_convert", conversions);
+    measure("nos_convert_date, every field", dates);
     measure("nos_read_unsigned", readings);
     measure("nos_check_table, 256 records", check);
     measure("nos_look_up, 256 records in each table", look_up);

@@ -1,6 +1,6 @@
-/* A clerk who copies quantities and reads them back, and heads the pages (headings.c). What is printed was checked first; at the
- * first thing that is off the clerk says so and ends with status 1. Arguments are read as numbers; with none the clerk does the
- * whole day's work. */
+/* A clerk who copies quantities and reads them back, dates the rows (dates.c) and heads the pages (headings.c). What is printed was
+ * checked first; at the first thing that is off the clerk says so and ends with status 1. Arguments are read as numbers; with none the
+ * clerk does the whole day's work. */
 #include <inttypes.h>
 #include <stdio.h>
 #include <stdlib.h>
@@ -44,12 +44,13 @@ void check_the_rest(const uint8_t *paper, size_t size, size_t at, size_t written
     check(memcmp(paper + behind, as_it_was + behind, size - behind) == 0, "every byte behind what was written is as it was");
 }
 
-/* Converts into the part of a paper that starts at `at`, and checks what holds of every call: the whole string stands there with
- * its zero byte, or nothing does; and every other byte of the paper is as it was. */
-static struct nos_answer convert(uint32_t call, uint32_t value, uint8_t *paper, size_t size, size_t at, size_t room)
+void print_bytes(const uint8_t *bytes, size_t length)
 {
-    remember(paper, size);
-    struct nos_answer answer = nos_convert(call, value, paper + at, room);
+    for (size_t i = 0; i < length; i++) printf(bytes[i] >= 32 && bytes[i] < 127 ? "%c" : "[%d]", bytes[i]);
+}
+
+void check_conversion(struct nos_answer answer, const uint8_t *paper, size_t size, size_t at, size_t room)
+{
     size_t written = 0;
     check(answer.counted == NOS_IN_THE_TEXT, "a conversion has nothing to do with a table");
     if (answer.number == NOS_ACCEPTED) {
@@ -59,10 +60,19 @@ static struct nos_answer convert(uint32_t call, uint32_t value, uint8_t *paper, 
         check(answer.free == room - answer.place, "the zero byte counts as free");
         check(memchr(paper + at, 0, written) == paper + at + answer.place, "the first zero byte is at the place");
     } else {
-        check(answer.place == 0 && answer.free == room, "a refused conversion has the place 0, and the whole room is free");
+        check(answer.place == 0 || answer.number == NOS_BAD_FIELD, "a refused conversion has the place 0, but for a bad field");
+        check(answer.free == room, "the whole room is free");
         check(answer.number == NOS_NO_ROOM ? answer.need > room : answer.need == 0, "a need is over the room; others have none");
     }
     check_the_rest(paper, size, at, written);
+}
+
+/* Converts into the part of a paper that starts at `at`. */
+static struct nos_answer convert(uint32_t call, uint32_t value, uint8_t *paper, size_t size, size_t at, size_t room)
+{
+    remember(paper, size);
+    struct nos_answer answer = nos_convert(call, value, paper + at, room);
+    check_conversion(answer, paper, size, at, room);
     return answer;
 }
 
@@ -109,6 +119,7 @@ static void other_refusals(void)
     struct nos_answer with_room = on_a_clean_sheet(0xE9, 1, SHEET), without = on_a_clean_sheet(0xE9, 1, 0);
     check(with_room.number == NOS_UNKNOWN_CALL && alike(with_room, without), "&E9 is unknown at every room");
     printf("&E9: refused %" PRIu32 ", %s, no byte changed\n", without.number, nos_words(without.number));
+    check(on_a_clean_sheet(0xC1, 1, SHEET).number == NOS_UNKNOWN_CALL, "&C1 is not nos_convert's, but nos_convert_date's");
     struct nos_answer asked = nos_convert(NOS_UNSIGNED_4, 1048576, NULL, 0);
     check(asked.number == NOS_NO_ROOM && asked.need == 8, "NULL with room 0 is refused, with the need");
     printf("no buffer: refused %" PRIu32 ", %s, need %zu\n", asked.number, nos_words(asked.number), asked.need);
@@ -241,6 +252,7 @@ int main(int argc, char **argv)
         across_the_page();
         read_back();
         readings();
+        dates();
         headings();
     }
     for (int i = 1; i < argc; i++) show(argv[i], "", read_number(argv[i], strlen(argv[i]), 0, NOS_NO_LIMIT));

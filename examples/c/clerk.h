@@ -1,4 +1,4 @@
-/* What the clerk's two papers share. */
+/* What the clerk's three papers share. */
 #ifndef CLERK_H
 #define CLERK_H
 
@@ -21,6 +21,16 @@ void fill(uint8_t *bytes, size_t size);
 /* Keeps a copy of a paper; later checks that all of it but the `written` bytes at `at` is as it was. */
 void remember(const uint8_t *paper, size_t size);
 void check_the_rest(const uint8_t *paper, size_t size, size_t at, size_t written);
+
+/* Checks what holds of every conversion into the `room` bytes at `at` of a remembered paper: the whole string stands there with its
+ * zero byte, or nothing does; and every other byte of the paper is as it was. */
+void check_conversion(struct nos_answer answer, const uint8_t *paper, size_t size, size_t at, size_t room);
+
+/* Prints bytes as they are, and those that do not print as numbers in brackets. */
+void print_bytes(const uint8_t *bytes, size_t length);
+
+/* The work on dates. */
+void dates(void);
 
 /* The work on variables, texts and sums. */
 void headings(void);

@@ -14,6 +14,7 @@ enum {
     GS_TRANS = 0x27,
     BINARY_TO_DECIMAL = 0x28,
     EVALUATE = 0x2D,
+    CONVERT_DATE = 0xC1,
     CONVERT_FIRST = 0xD0,
     CONVERT_LAST = 0xE8
 };
@@ -34,6 +35,7 @@ static const char *message_of(uint32_t refusal)
     case NOS_BAD_CODE: case NOS_BAD_STRING: case NOS_BAD_REFERENCE: return "Bad string";
     case NOS_UNKNOWN_NAME: return "System variable not found";
     case NOS_ZERO_DIVISOR: return "Division by zero";
+    case NOS_OVER_LENGTH: return "Text or table over 65,535 bytes"; /* a time of this machine always has five */
     case BAD_ADDRESS: return "Bad address";
     }
     return nos_words(refusal);
@@ -73,15 +75,19 @@ struct string {
     size_t length;
 };
 
-/* Takes the string at an address up to its byte 0, 10 or 13; false where memory ends before that byte. A string longer than the
+/* A format ends at a zero byte alone: it may have line ends to copy. */
+static bool ends_string(uint8_t byte) { return byte == 0 || byte == 10 || byte == 13; }
+static bool ends_format(uint8_t byte) { return byte == 0; }
+
+/* Takes the string at an address up to the byte that ends it; false where memory ends before that byte. A string longer than the
  * library reads is taken with one byte too many, so that the library refuses it. */
-static bool take_string(const struct machine *machine, uint32_t at, struct string *string)
+static bool take_string(const struct machine *machine, uint32_t at, bool (*ends)(uint8_t), struct string *string)
 {
     for (string->length = 0; string->length <= NOS_LONGEST; string->length++) {
         if (at >= machine->size || string->length >= machine->size - at) return false;
         uint8_t byte = machine->memory[at + string->length];
         string->bytes[string->length] = byte;
-        if (byte == 0 || byte == 10 || byte == 13) return true;
+        if (ends(byte)) return true;
     }
     return true;
 }
@@ -125,7 +131,7 @@ static struct reading read_in_base(const uint8_t *text, size_t length, uint32_t 
  *   errors  Bad number       2 no digit; 5 bit 31's check; 6 bit 30's check, where bit 29's holds or is not asked for
  *           Bad base         3
  *           Number too big   4 over 4,294,967,295, of which the book says nothing; 6 bit 29's check, whether bit 30's holds or not
- *           nos_words        18 more than 65,531 bytes of spaces and digits: the number's end was not seen
+ *           Text or table over 65,535 bytes   18 more than 65,531 bytes of spaces and digits: the number's end was not seen
  *           Bad address      the byte behind the number is no memory
  * Where the bytes that were looked at end inside a number, it may go on behind them: it is never given as if it were whole. */
 static struct served read_unsigned(const struct machine *machine, struct registers *registers)
@@ -155,14 +161,15 @@ static struct served read_unsigned(const struct machine *machine, struct registe
  *           terminator. The size has to have room for it
  *   short   a buffer that is too short is no error: C set, R1 0, R2 the size plus 1; R0 and every byte of the buffer stay. The
  *           need, with the terminator, which the library knows nothing of, is in struct served alone
- *   errors  Bad string 7, 8, 9; Number too big 4; System variable not found 10; as by nos_words 11, 12, 13, 18; Bad address: no
- *           byte 0, 10 or 13 before memory's end, or the buffer is not all memory
+ *   errors  Bad string 7, 8, 9; Number too big 4; System variable not found 10; as by nos_words 11, 12, 13; Text or table over 65,535
+ *           bytes 18; Bad address: no byte 0, 10 or 13 before memory's end, or the buffer is not all memory
  * After an error C, too, stays as it was. */
 static struct served gs_trans(const struct machine *machine, struct registers *registers)
 {
     struct string string;
     uint32_t size = registers->r[2] & ~FLAG_BITS, flags = registers->r[2] & FLAG_BITS, buffer = registers->r[1];
-    if (!take_string(machine, registers->r[0], &string) || !is_memory(machine, buffer, size)) return error(BAD_ADDRESS, 0);
+    if (!take_string(machine, registers->r[0], ends_string, &string) || !is_memory(machine, buffer, size))
+        return error(BAD_ADDRESS, 0);
     size_t room = size > 0 ? size - 1 : 0; /* without the terminator */
     struct nos_answer answer = nos_translate(string.bytes, string.length, NOS_TABLES(machine->tables), flags, machine->allowance,
                                              machine->memory + buffer, room);
@@ -202,11 +209,12 @@ static struct served binary_to_decimal(const struct machine *machine, struct reg
  *   gives   R0 the expression's address; R1 and R2 a buffer for a string, which is not looked at: no integer needs it
  *   gets    R1 0, for an integer, and R2 its value; R0 stays
  *   errors  Bad expression 15, also for one with strings; Division by zero 16; System variable not found 10; Bad number 2; Bad
- *           base 3; Number too big 4; as by nos_words 11, 12, 13, 17, 18; Bad address: no byte 0, 10 or 13 before memory's end */
+ *           base 3; Number too big 4; as by nos_words 11, 12, 13, 17; Text or table over 65,535 bytes 18; Bad address: no byte 0, 10
+ *           or 13 before memory's end */
 static struct served evaluate(const struct machine *machine, struct registers *registers)
 {
     struct string string;
-    if (!take_string(machine, registers->r[0], &string)) return error(BAD_ADDRESS, 0);
+    if (!take_string(machine, registers->r[0], ends_string, &string)) return error(BAD_ADDRESS, 0);
     struct nos_value answer = nos_evaluate(string.bytes, string.length, NOS_TABLES(machine->tables), machine->allowance);
     if (answer.number != NOS_ACCEPTED) return error_in(answer.number, answer.counted);
     registers->r[1] = 0;
@@ -214,16 +222,10 @@ static struct served evaluate(const struct machine *machine, struct registers *r
     return ended(SERVED);
 }
 
-/* &D0 to &E8 OS_Convert...
- *   gives   R0 the value, R1 the buffer's address, R2 its size
- *   gets    R0 the buffer's address, R1 that of the zero byte behind the string, R2 the bytes free from the zero byte on
- *   errors  Buffer overflow 1, as for &28: the book says nothing of a short buffer here
- *           Bad address: the buffer is not all memory */
-static struct served convert(const struct machine *machine, uint32_t call, struct registers *registers)
+/* What a conversion of &C1 and &D0 to &E8 gives the program: R0 the buffer's address, R1 that of the zero byte behind the string, R2
+ * the bytes free from the zero byte on; or the error. */
+static struct served converted(struct nos_answer answer, uint32_t buffer, struct registers *registers)
 {
-    uint32_t buffer = registers->r[1], size = registers->r[2];
-    if (!is_memory(machine, buffer, size)) return error(BAD_ADDRESS, 0);
-    struct nos_answer answer = nos_convert(call, registers->r[0], machine->memory + buffer, size);
     if (answer.number != NOS_ACCEPTED) return error(answer.number, (uint32_t)answer.need);
     registers->r[0] = buffer;
     registers->r[1] = buffer + (uint32_t)answer.place;
@@ -231,10 +233,42 @@ static struct served convert(const struct machine *machine, uint32_t call, struc
     return ended(SERVED);
 }
 
+/* &C1 OS_ConvertDateAndTime.
+ *   gives   R0 the address of a time of five bytes, R1 the buffer's, R2 its size, R3 the format's address; a zero byte ends the format
+ *   gets    as by `converted`; R3 stays
+ *   errors  Buffer overflow 1, as for &28: the book says nothing of a short buffer here
+ *           Bad field 19, also for a field that the book has and the library has not; Text or table over 65,535 bytes 18, of the format
+ *           Bad address: the time or the buffer is not all memory, or no zero byte before memory's end
+ * The time is copied too: the string may be written over it. */
+static struct served convert_date(const struct machine *machine, struct registers *registers)
+{
+    struct string format;
+    uint8_t time[NOS_TIME];
+    uint32_t at = registers->r[0], buffer = registers->r[1], size = registers->r[2];
+    if (!is_memory(machine, at, NOS_TIME) || !is_memory(machine, buffer, size)
+        || !take_string(machine, registers->r[3], ends_format, &format))
+        return error(BAD_ADDRESS, 0);
+    memcpy(time, machine->memory + at, NOS_TIME);
+    struct nos_answer answer = nos_convert_date(time, NOS_TIME, format.bytes, format.length, machine->memory + buffer, size);
+    return converted(answer, buffer, registers);
+}
+
+/* &D0 to &E8 OS_Convert...
+ *   gives   R0 the value, R1 the buffer's address, R2 its size
+ *   gets    as by `converted`
+ *   errors  Buffer overflow 1, as for &28: the book says nothing of a short buffer here
+ *           Bad address: the buffer is not all memory */
+static struct served convert(const struct machine *machine, uint32_t call, struct registers *registers)
+{
+    uint32_t buffer = registers->r[1], size = registers->r[2];
+    if (!is_memory(machine, buffer, size)) return error(BAD_ADDRESS, 0);
+    return converted(nos_convert(call, registers->r[0], machine->memory + buffer, size), buffer, registers);
+}
+
 static bool is_mine(uint32_t call)
 {
     return call == READ_UNSIGNED || call == GS_TRANS || call == BINARY_TO_DECIMAL || call == EVALUATE
-        || (call >= CONVERT_FIRST && call <= CONVERT_LAST);
+        || call == CONVERT_DATE || (call >= CONVERT_FIRST && call <= CONVERT_LAST);
 }
 
 static struct served serve(const struct machine *machine, uint32_t call, struct registers *registers)
@@ -244,6 +278,7 @@ static struct served serve(const struct machine *machine, uint32_t call, struct 
     case GS_TRANS: return gs_trans(machine, registers);
     case BINARY_TO_DECIMAL: return binary_to_decimal(machine, registers);
     case EVALUATE: return evaluate(machine, registers);
+    case CONVERT_DATE: return convert_date(machine, registers);
     }
     return convert(machine, call, registers);
 }

@@ -6,11 +6,12 @@
  *   &27          OS_GSTrans                a string translated
  *   &28          OS_BinaryToDecimal        a signed number as a string
  *   &2D          OS_EvaluateExpression     an expression evaluated; integers only
+ *   &C1          OS_ConvertDateAndTime     a time as a string, by a format
  *   &D0 to &E8   OS_Convert...             a number as a string
  *
  * A result stands whole in the program's memory and registers, or nothing does. handler.c says above each call what the program
  * gives, what it gets, and what it sees of each refusal. A call takes some 70,000 bytes of the host's stack, for a copy of the
- * string, and NOS_STACK behind them. */
+ * string or the format, and NOS_STACK behind them. */
 #ifndef HANDLER_H
 #define HANDLER_H
 
@@ -32,7 +33,7 @@ struct machine {
     uint32_t error_at;        /* the address of ERROR_ROOM bytes for error blocks, which no program lends as a buffer */
 };
 
-/* What the calls read and change of the ARM's registers: R0 to R2, and the C and V flags. */
+/* What the calls read and change of the ARM's registers: R0 to R2, and the C and V flags; of R3 they read the address of a format. */
 struct registers {
     uint32_t r[16];
     bool carry, overflow;

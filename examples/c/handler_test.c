@@ -14,7 +14,7 @@
 #define FAR 0xFFFFFFFFu
 
 /* The memory stands between margins that belong to the host: no call may touch them. */
-enum { MARGIN = 16, SIZE = 0x20000, TEXT = 0x100, BUFFER = 0x800, ERRORS = 0x40 };
+enum { MARGIN = 16, SIZE = 0x20000, TEXT = 0x100, BUFFER = 0x800, ERRORS = 0x40, TIME = 0x80 };
 
 static uint8_t host[MARGIN + SIZE + MARGIN], as_it_was[sizeof host];
 static uint8_t *const memory = host + MARGIN;
@@ -46,6 +46,43 @@ static void check(bool holds, const char *what, const char *claim)
     printf("OFF, %s: this does not hold: %s\n", what, claim);
     exit(1);
 }
+
+/* What the proof asks of a caller, and what no answer would show: that a buffer overlaps nothing that is read. run has the linker lead
+ * the handler's calls of these two functions here (--wrap), and from here on to the library. */
+static bool are_apart(const uint8_t *read, size_t length, const uint8_t *written, size_t room)
+{
+    uintptr_t one = (uintptr_t)read, other = (uintptr_t)written;
+    return one + length <= other || other + room <= one;
+}
+
+#ifdef __cplusplus
+extern "C" {
+#endif
+
+struct nos_answer __real_nos_convert_date(const uint8_t *time, size_t time_length, const uint8_t *format, size_t format_length,
+                                          uint8_t *buf, size_t room);
+struct nos_answer __wrap_nos_convert_date(const uint8_t *time, size_t time_length, const uint8_t *format, size_t format_length,
+                                          uint8_t *buf, size_t room)
+{
+    check(are_apart(time, time_length, buf, room), "a date", "the buffer does not overlap the time");
+    check(are_apart(format, format_length, buf, room), "a date", "the buffer does not overlap the format");
+    return __real_nos_convert_date(time, time_length, format, format_length, buf, room);
+}
+
+struct nos_answer __real_nos_translate(const uint8_t *text, size_t length, const uint8_t *farm, size_t farm_length,
+                                       const uint8_t *house, size_t house_length, uint32_t flags, uint32_t allowance, uint8_t *out,
+                                       size_t room);
+struct nos_answer __wrap_nos_translate(const uint8_t *text, size_t length, const uint8_t *farm, size_t farm_length,
+                                       const uint8_t *house, size_t house_length, uint32_t flags, uint32_t allowance, uint8_t *out,
+                                       size_t room)
+{
+    check(are_apart(text, length, out, room), "a translation", "the buffer does not overlap the text");
+    return __real_nos_translate(text, length, farm, farm_length, house, house_length, flags, allowance, out, room);
+}
+
+#ifdef __cplusplus
+}
+#endif
 
 /* A call, and what must come of it. */
 struct test {
@@ -104,10 +141,10 @@ static void check_the_rest(const struct test *test)
     check(memcmp(host, as_it_was, sizeof host) == 0, test->what, "every other byte is as it was");
 }
 
-static void run_on(const struct machine *machine, const struct test *test, bool carry)
+static void run_with_r3(const struct machine *machine, const struct test *test, uint32_t r3, bool carry)
 {
-    struct registers registers = {{test->r0, test->r1, test->r2}, carry, !carry};
-    for (size_t i = 3; i < 16; i++) registers.r[i] = 0xAB00 + (uint32_t)i;
+    struct registers registers = {{test->r0, test->r1, test->r2, r3}, carry, !carry};
+    for (size_t i = 4; i < 16; i++) registers.r[i] = 0xAB00 + (uint32_t)i;
     struct registers expected = registers;
     struct served served = handle_swi(machine, test->swi, &registers);
     bool failed = served.ending == RETURNED || served.ending == RAISED;
@@ -128,6 +165,11 @@ static void run_on(const struct machine *machine, const struct test *test, bool 
     if (failed) check_block(machine, test, &served);
     check_the_rest(test);
     tests++;
+}
+
+static void run_on(const struct machine *machine, const struct test *test, bool carry)
+{
+    run_with_r3(machine, test, 0xAB03, carry);
 }
 
 /* Each test with C and V set in turn before it. */
@@ -296,10 +338,119 @@ static void conversions(void)
     RUN(list);
 }
 
+/* A test of &C1: its `text` is the format. */
+struct dated {
+    const char *time; /* five bytes, which go to R0; NULL: none */
+    uint32_t r3;
+    bool ended; /* a zero byte goes behind the format */
+    struct test test;
+};
+
+/* Behind memory stand zero bytes, which would end a format that memory does not. */
+static void run_dated(const struct dated *list, size_t count)
+{
+    for (size_t i = 0; i < count; i++) {
+        const struct test *test = &list[i].test;
+        lay_out(test->text, test->text_at);
+        memset(memory + SIZE, 0, MARGIN);
+        if (list[i].ended) memory[test->text_at + strlen(test->text)] = 0;
+        if (list[i].time != NULL) memcpy(memory + test->r0, list[i].time, NOS_TIME);
+        memcpy(as_it_was, host, sizeof host);
+        run_with_r3(&usual, test, list[i].r3, i % 2 == 0);
+    }
+}
+
+#define RUN_DATED(list) run_dated(list, sizeof list / sizeof list[0])
+
+/* The date of the book's example, Tuesday 28 March 1989, 13:25:54; the first time that there is, and the last. */
+static const char of_the_book[] = "\x48\x7E\x2A\x91\x41", first_time[] = "\0\0\0\0\0", last_time[] = "\xFF\xFF\xFF\xFF\xFF";
+
+/* The book's own format, and one with every field. */
+#define STANDARD "%W3,%DY %M3 %CE%YR.%24:%MI:%SE"
+#define ALL "%24%MI%SE%CS %W3%DY%MN%M3%CE%YR%DN"
+
+static void dates(void)
+{
+    static const struct dated list[] = {
+        {of_the_book, TEXT, true, {"the book's format", 0xC1, STANDARD, TEXT, TIME, BUFFER, 25, DONE, BUFFER, BUFFER + 24, 1, 0,
+                                   "Tue,28 Mar 1989.13:25:54", BUFFER, 25}},
+        {of_the_book, TEXT, true, FAILS("one byte too few", 0xC1, STANDARD, TEXT, TIME, BUFFER, 24, 1, 25, "Buffer overflow")},
+        {of_the_book, TEXT, true, FAILS("no buffer", X + 0xC1, STANDARD, TEXT, TIME, BUFFER, 0, 1, 25, "Buffer overflow")},
+        {of_the_book, TEXT, true, FAILS("no buffer, at memory's end", 0xC1, "%DN", TEXT, TIME, SIZE, 0, 1, 4, "Buffer overflow")},
+        {first_time, TEXT, true, {"the first time", X + 0xC1, ALL, TEXT, TIME, BUFFER, 64, DONE, BUFFER, BUFFER + 26, 38, 0,
+                                  "00000000 Mon0101Jan1900001", BUFFER, 27}},
+        {last_time, TEXT, true, {"the last time", 0xC1, ALL, TEXT, TIME, BUFFER, 64, DONE, BUFFER, BUFFER + 26, 38, 0,
+                                 "06575775 Sat0306Jun2248155", BUFFER, 27}},
+        {of_the_book, TEXT, true, {"line ends", X + 0xC1, "%DY\n\r%MN", TEXT, TIME, BUFFER, 16, DONE, BUFFER, BUFFER + 6, 10, 0,
+                                   "28\n\r03", BUFFER, 7}},
+        {of_the_book, TEXT, true, {"percent signs", 0xC1, "%%CS%%", TEXT, TIME, BUFFER, 16, DONE, BUFFER, BUFFER + 4, 12, 0, "%CS%",
+                                   BUFFER, 5}},
+        {of_the_book, TEXT, true, {"no format, one byte", 0xC1, "", TEXT, TIME, BUFFER, 1, DONE, BUFFER, BUFFER, 1, 0, "",
+                                   BUFFER, 1}},
+        {of_the_book, TEXT, true, FAILS("no format, no buffer", X + 0xC1, "", TEXT, TIME, BUFFER, 0, 1, 1, "Buffer overflow")},
+        {of_the_book, TEXT, true, FAILS("small letters", 0xC1, "%DY.%mn", TEXT, TIME, BUFFER, 64, 19, 0, "Bad field")},
+        {of_the_book, TEXT, true, FAILS("another field of the book", X + 0xC1, "%12", TEXT, TIME, BUFFER, 64, 19, 0, "Bad field")},
+        {of_the_book, TEXT, true, FAILS("a field cut off", X + 0xC1, "%DY%D", TEXT, TIME, BUFFER, 64, 19, 0, "Bad field")},
+        {of_the_book, TEXT, true, FAILS("the same, no buffer", 0xC1, "%DY%D", TEXT, TIME, BUFFER, 0, 19, 0, "Bad field")},
+    };
+    RUN_DATED(list);
+}
+
+/* The time, the format and the buffer at memory's end, and beyond. */
+static void dates_at_the_end(void)
+{
+    static const struct dated list[] = {
+        {of_the_book, TEXT, true, {"a time in the last bytes", 0xC1, "%MN", TEXT, SIZE - 5, BUFFER, 8, DONE, BUFFER, BUFFER + 2, 6, 0,
+                                   "03", BUFFER, 3}},
+        {NULL, TEXT, true, FAILS("a time that ends behind them", 0xC1, "%MN", TEXT, SIZE - 4, BUFFER, 8, BAD_ADDRESS, 0,
+                                 "Bad address")},
+        {NULL, TEXT, true, FAILS("a time behind memory", X + 0xC1, "%MN", TEXT, SIZE, BUFFER, 8, BAD_ADDRESS, 0, "Bad address")},
+        {NULL, TEXT, true, FAILS("a time that wraps around", 0xC1, "%MN", TEXT, FAR, BUFFER, 8, BAD_ADDRESS, 0, "Bad address")},
+        {NULL, TEXT, true, FAILS("the same, no buffer", X + 0xC1, "%MN", TEXT, FAR, BUFFER, 0, BAD_ADDRESS, 0, "Bad address")},
+        {NULL, TEXT, true, FAILS("the same, a bad field", 0xC1, "%", TEXT, FAR, BUFFER, 8, BAD_ADDRESS, 0, "Bad address")},
+        {of_the_book, SIZE - 4, true, {"a format in the last bytes", X + 0xC1, "%MN", SIZE - 4, TIME, BUFFER, 8, DONE, BUFFER,
+                                       BUFFER + 2, 6, 0, "03", BUFFER, 3}},
+        {of_the_book, SIZE - 3, false, FAILS("a format that memory cuts off", 0xC1, "%MN", SIZE - 3, TIME, BUFFER, 8, BAD_ADDRESS, 0,
+                                             "Bad address")},
+        {of_the_book, SIZE - 1, false, FAILS("a bad one that memory cuts off", X + 0xC1, "%", SIZE - 1, TIME, BUFFER, 8, BAD_ADDRESS, 0,
+                                             "Bad address")},
+        {of_the_book, SIZE, false, FAILS("a format behind memory", X + 0xC1, NULL, 0, TIME, BUFFER, 8, BAD_ADDRESS, 0, "Bad address")},
+        {of_the_book, FAR, false, FAILS("a format far behind it", 0xC1, NULL, 0, TIME, BUFFER, 8, BAD_ADDRESS, 0, "Bad address")},
+        {of_the_book, TEXT, true, {"into the last bytes", 0xC1, "%DN", TEXT, TIME, SIZE - 4, 4, DONE, SIZE - 4, SIZE - 1, 1, 0, "087",
+                                   SIZE - 4, 4}},
+        {of_the_book, TEXT, true, FAILS("a buffer that ends behind them", X + 0xC1, "%DN", TEXT, TIME, SIZE - 4, 5, BAD_ADDRESS, 0,
+                                        "Bad address")},
+        {of_the_book, TEXT, true, FAILS("a buffer that wraps around", 0xC1, "%DN", TEXT, TIME, FAR, 8, BAD_ADDRESS, 0, "Bad address")},
+        {of_the_book, TEXT, true, FAILS("the same, a bad field", X + 0xC1, "%", TEXT, TIME, FAR, 8, BAD_ADDRESS, 0, "Bad address")},
+    };
+    RUN_DATED(list);
+}
+
+/* The program sees the string as if the time and the format had been read first, whatever it is written over. */
+static void dates_over(void)
+{
+    static const struct dated list[] = {
+        {of_the_book, TEXT, true, {"over its format", 0xC1, "%CE%YR-%MN", TEXT, TIME, TEXT, 16, DONE, TEXT, TEXT + 7, 9, 0, "1989-03",
+                                   TEXT, 8}},
+        {of_the_book, TEXT, true, {"over it, one byte behind", X + 0xC1, "-%CE%YR-%MN", TEXT, TIME, TEXT + 1, 16, DONE, TEXT + 1,
+                                   TEXT + 9, 8, 0, "-1989-03", TEXT + 1, 9}},
+        {of_the_book, TEXT, true, {"over its time", 0xC1, "%24:%MI:%SE", TEXT, TIME, TIME, 9, DONE, TIME, TIME + 8, 1, 0, "13:25:54",
+                                   TIME, 9}},
+        {of_the_book, TEXT, true, {"over it, from before", X + 0xC1, "%24:%MI:%SE", TEXT, TIME, TIME - 3, 9, DONE, TIME - 3, TIME + 5,
+                                   1, 0, "13:25:54", TIME - 3, 9}},
+        {of_the_book, TEXT, true, {"over both", 0xC1, "%24:%MI:%SE", TEXT, TEXT - 6, TEXT - 7, 64, DONE, TEXT - 7, TEXT + 1, 56, 0,
+                                   "13:25:54", TEXT - 7, 9}},
+        {of_the_book, TEXT, true, FAILS("over both, too short", X + 0xC1, "%24:%MI:%SE", TEXT, TEXT - 6, TEXT - 7, 8, 1, 9,
+                                        "Buffer overflow")},
+    };
+    RUN_DATED(list);
+}
+
 /* Other calls are left alone, though the registers would do. */
 static void others(void)
 {
-    static const uint32_t swis[] = {0x00, 0x20, 0x22, 0x26, 0x29, 0x2C, 0x2E, 0xCF, 0xE9, X + 0xE9, 0x400D8, 0x10027, 0xFFFFFF};
+    static const uint32_t swis[] = {0x00, 0x20, 0x22, 0x26, 0x29, 0x2C, 0x2E, 0xC0, 0xC2, X + 0xC0, X + 0xC2, 0xCF, 0xE9, X + 0xE9,
+                                    0x400C1, 0x400D8, 0x10027, 0xFFFFFF};
     for (size_t i = 0; i < sizeof swis / sizeof swis[0]; i++) {
         const struct test list[] = {
             {"another call", swis[i], "1\r", TEXT, TEXT, BUFFER, 64, ENDED(NOT_MINE), 0, 0, 0, 0, NULL, 0, 0},
@@ -373,15 +524,17 @@ static void bad_tables(void)
     }
 }
 
-/* Strings of the longest length that is read, and one byte more: spaces, `last` as the last byte, and a return behind it. */
+/* Strings of the longest length that is read, and one byte more: spaces, `last` as the last byte, and behind it a return, or the zero
+ * byte of a format. */
 static void run_long(const struct test *test, uint32_t length, char last)
 {
+    bool is_format = (test->swi & ~X) == 0xC1;
     lay_out(NULL, 0);
     memset(memory + TEXT, ' ', length);
     memory[TEXT + length - 1] = (uint8_t)last;
-    memory[TEXT + length] = '\r';
+    memory[TEXT + length] = is_format ? 0 : '\r';
     memcpy(as_it_was, host, sizeof host);
-    run_on(&usual, test, true);
+    run_with_r3(&usual, test, is_format ? TEXT : 0xAB03, true);
 }
 
 static void long_strings(void)
@@ -394,6 +547,9 @@ static void long_strings(void)
         FAILS("65536 spaces", 0x27, NULL, 0, TEXT, LAST, 1, 18, 0, LONG),
         {"65534 spaces and 7", 0x2D, NULL, 0, TEXT, 0, 0, DONE, TEXT, 0, 7, 0, NULL, 0, 0},
         FAILS("65535 spaces and 7", X + 0x2D, NULL, 0, TEXT, 0, 0, 18, 0, LONG),
+        FAILS("65535 spaces", 0xC1, NULL, 0, TIME, LAST, 0, 1, NOS_LONGEST + 1, "Buffer overflow"),
+        FAILS("65534 spaces and %", X + 0xC1, NULL, 0, TIME, LAST, 0, 19, 0, "Bad field"),
+        FAILS("65535 spaces and %", 0xC1, NULL, 0, TIME, LAST, 0, 18, 0, LONG),
     };
     run_long(&list[0], NUMBER, '7');
     run_long(&list[1], NUMBER + 1, '7');
@@ -401,13 +557,17 @@ static void long_strings(void)
     run_long(&list[3], NOS_LONGEST + 1, ' ');
     run_long(&list[4], NOS_LONGEST, '7');
     run_long(&list[5], NOS_LONGEST + 1, '7');
+    run_long(&list[6], NOS_LONGEST, ' ');
+    run_long(&list[7], NOS_LONGEST, '%');
+    run_long(&list[8], NOS_LONGEST + 1, '%');
 }
 
-/* No message is cut. */
+/* No message is cut. The library's words for 18 are longer than the room; the handler has its own, which the calls below see whole. */
 static void messages(void)
 {
-    for (uint32_t number = 0; number <= NOS_OVER_LENGTH; number++)
-        check(strlen(nos_words(number)) < MESSAGE_ROOM, nos_words(number), "there is room for the words and their zero byte");
+    for (uint32_t number = 0; number <= NOS_BAD_FIELD; number++)
+        check(number == NOS_OVER_LENGTH || strlen(nos_words(number)) < MESSAGE_ROOM, nos_words(number),
+              "there is room for the words and their zero byte");
 }
 
 int main(void)
@@ -418,6 +578,9 @@ int main(void)
     binary_to_decimal();
     evaluate();
     conversions();
+    dates();
+    dates_at_the_end();
+    dates_over();
     others();
     hosts();
     house_alone();

@@ -41,12 +41,6 @@ static uint8_t longest[NOS_LONGEST + 1];
 
 static const uint8_t *bytes_of(const char *text) { return (const uint8_t *)text; }
 
-/* Printable bytes as they are, others as numbers in brackets. */
-static void print_bytes(const uint8_t *bytes, size_t length)
-{
-    for (size_t i = 0; i < length; i++) printf(bytes[i] >= 32 && bytes[i] < 127 ? "%c" : "[%d]", bytes[i]);
-}
-
 /* Writes a record; its length. */
 static size_t put_record(uint8_t *at, uint8_t kind, const char *name, const void *value, size_t length)
 {

@@ -4,8 +4,9 @@
 mod nosgoludd;
 
 use nosgoludd::{
-    check_table, convert, evaluate, look_up, read_unsigned, translate, translate_to_vec, Evaluated, Found, Number, Refusal,
-    Table, Tables, Variable, BAR_PLAIN, NO_LIMIT, NO_ROOM, QUOTE_PLAIN, SPACED_UNSIGNED_4, SPACE_ENDS, UNSIGNED_4,
+    check_table, convert, convert_date, convert_date_to_vec, evaluate, look_up, read_unsigned, translate, translate_to_vec,
+    Evaluated, Found, Number, Refusal, Table, Tables, Variable, BAR_PLAIN, NO_LIMIT, NO_ROOM, QUOTE_PLAIN, SPACED_UNSIGNED_4,
+    SPACE_ENDS, UNSIGNED_4,
 };
 
 /// Records one behind the other: V, R, kind, name length, value length, name, value. The house has a heading for every farm, and a
@@ -116,6 +117,38 @@ fn numbers() -> Result<(), Refusal> {
     Ok(())
 }
 
+/// The times of three entries by one format: the need goes by the format, so that one ask serves them all.
+fn dates() -> Result<(), Refusal> {
+    // hundredths of a second since 1900, the lowest byte first: the first time, the date of the book's example, the last time
+    let times: [[u8; 5]; 3] = [[0; 5], [0x48, 0x7E, 0x2A, 0x91, 0x41], [0xFF; 5]];
+    let column = ["Mon,01 Jan 1900.00:00:00.00 001", "Tue,28 Mar 1989.13:25:54.00 087", "Sat,03 Jun 2248.06:57:57.75 155"];
+    let format = b"%W3,%DY %M3 %CE%YR.%24:%MI:%SE.%CS %DN";
+    let mut short = [b'.'; 31];
+    let refusal = convert_date(&times[0], format, &mut short).expect_err("no room for the zero byte");
+    assert_eq!(refusal, Refusal { need: 32, ..refused(NO_ROOM, 0) });
+    assert_eq!(short, [b'.'; 31], "a refusal changes no byte");
+    for (time, row) in times.iter().zip(column) {
+        let mut buf = [b'.'; 33];
+        assert_eq!(convert_date(time, format, &mut buf[..refusal.need])?, row.as_bytes());
+        assert_eq!(&buf[refusal.need - 1..], b"\0.", "a zero byte behind it, and the byte behind that stays");
+        assert_eq!(convert_date_to_vec(time, format)?, row.as_bytes());
+        println!("{} with room for {}: {row}", shown(format), refusal.need);
+    }
+
+    // a format may have any bytes, ends at a zero byte, and needs no field
+    assert_eq!(convert_date_to_vec(&times[1], b"100%%\xFF\n%MN\0%")?, b"100%\xFF\n03");
+    assert_eq!(convert_date_to_vec(&times[1], b"")?, b"");
+
+    let wrong = b"%DY.%mn.%CE%YR";
+    let refusal = convert_date_to_vec(&times[1], wrong).expect_err("small letters are no field");
+    assert_eq!(refusal, refused(19, 4));
+    println!("{}: {refusal}", shown(wrong));
+    assert_eq!(convert_date_to_vec(&times[1][..4], wrong), Err(refused(18, 0)), "a time of four bytes");
+    assert_eq!(convert_date_to_vec(&times[1], &[b'%'; 65536]), Err(refused(18, 0)), "a format too long");
+    assert_eq!(convert_date_to_vec(&[], &[]), Err(refused(18, 0)));
+    Ok(())
+}
+
 /// The farm's variables come before the house's.
 fn variables() -> Result<(), Refusal> {
     assert_eq!((check_table(FARM)?, check_table(HOUSE)?), (2, 4));
@@ -146,6 +179,7 @@ fn main() -> Result<(), Refusal> {
     bad_tables();
     flags()?;
     numbers()?;
+    dates()?;
     variables()?;
     println!("nothing is off");
     Ok(())

@@ -16,7 +16,7 @@ static const uint32_t calls[] = {
 
 int main(void)
 {
-    for (uint32_t number = 0; number <= NOS_OVER_LENGTH; number++) printf("%u %s\n", number, nos_words(number));
+    for (uint32_t number = 0; number <= NOS_BAD_FIELD; number++) printf("%u %s\n", number, nos_words(number));
     for (size_t i = 0; i < sizeof calls / sizeof calls[0]; i++) printf("%u\n", calls[i]);
     printf("%d\n%d\n", NOS_IN_THE_HOUSE, NOS_IN_THE_FARM);
     return 0;

@@ -6,7 +6,7 @@
 
 use std::fmt;
 
-/// The six functions and their answers as the header declares them. Safe Rust has no way to break what they ask of a caller: a slice
+/// The seven functions and their answers as the header declares them. Safe Rust has no way to break what they ask of a caller: a slice
 /// is as long as it says, and nothing else reads or writes a `&mut [u8]` while it is lent. The pointer of an empty slice is not used.
 mod c {
     use std::mem::{offset_of, size_of};
@@ -54,6 +54,14 @@ mod c {
 
     unsafe extern "C" {
         pub fn nos_convert(call: u32, value: u32, buf: *mut u8, room: usize) -> Answer;
+        pub fn nos_convert_date(
+            time: *const u8,
+            time_length: usize,
+            format: *const u8,
+            format_length: usize,
+            buf: *mut u8,
+            room: usize,
+        ) -> Answer;
         pub fn nos_read_unsigned(text: *const u8, length: usize, whole: u32, limit: u32) -> Number;
         pub fn nos_check_table(table: *const u8, length: usize) -> Checked;
         pub fn nos_look_up(
@@ -135,7 +143,7 @@ pub const NO_LIMIT: u32 = u32::MAX;
 pub const NO_ROOM: u32 = 1;
 
 /// The refusals in words, by their numbers, as the header's `nos_words` has them.
-pub const WORDS: [&str; 19] = [
+pub const WORDS: [&str; 20] = [
     "Accepted",
     "No room",
     "Bad number: no digit",
@@ -154,7 +162,8 @@ pub const WORDS: [&str; 19] = [
     "Bad expression",
     "Zero divisor",
     "Not an integer variable",
-    "Text or table over 65,535 bytes",
+    "Text or table over 65,535 bytes, or a time not of five",
+    "Bad field",
 ];
 
 /// The two tables that names are looked up in, each as by `check_table`: a farm's own variables, and those of the house, which all
@@ -202,11 +211,12 @@ impl fmt::Display for Table {
 /// Why there is no answer.
 #[derive(Clone, Copy, Debug, PartialEq, Eq)]
 pub struct Refusal {
-    /// The number, 1 to 18.
+    /// The number, 1 to 19.
     pub number: u32,
     /// Where, in bytes from 0.
     pub place: usize,
-    /// Which of the two tables the place is counted in; none where it is in the text, or in the one table of `check_table`.
+    /// Which of the two tables the place is counted in; none where it is in the text or the format, or in the one table of
+    /// `check_table`.
     pub table: Option<Table>,
     /// The room that would have been enough, where the number is `NO_ROOM`; else 0.
     pub need: usize,
@@ -246,6 +256,29 @@ pub fn convert(call: u32, value: u32, buf: &mut [u8]) -> Result<&str, Refusal> {
     let a = unsafe { c::nos_convert(call, value, buf.as_mut_ptr(), buf.len()) };
     accepted(a.number, a.counted, a.place, a.need)?;
     Ok(std::str::from_utf8(&buf[..a.place]).expect("digits, letters, spaces and a minus are ASCII"))
+}
+
+/// Writes a time, five bytes, by a format to the start of `buf`, with a zero byte behind it; the string without that byte.
+pub fn convert_date<'a>(time: &[u8], format: &[u8], buf: &'a mut [u8]) -> Result<&'a [u8], Refusal> {
+    // SAFETY: each pointer and the length behind it are those of one slice, and `buf` is exclusive, so it overlaps no other.
+    let a = unsafe { c::nos_convert_date(time.as_ptr(), time.len(), format.as_ptr(), format.len(), buf.as_mut_ptr(), buf.len()) };
+    accepted(a.number, a.counted, a.place, a.need)?;
+    Ok(&buf[..a.place])
+}
+
+/// Writes a time by a format into as many bytes as that needs: asks with no room, and again with the need that the refusal carries.
+/// The string comes without its zero byte.
+pub fn convert_date_to_vec(time: &[u8], format: &[u8]) -> Result<Vec<u8>, Refusal> {
+    match convert_date(time, format, &mut []) {
+        Ok(_) => unreachable!("the zero byte takes room"),
+        Err(Refusal { number: NO_ROOM, need, .. }) => {
+            let mut buf = vec![0; need];
+            convert_date(time, format, &mut buf)?;
+            buf.pop(); // the zero byte
+            Ok(buf)
+        }
+        Err(refusal) => Err(refusal),
+    }
 }
 
 #[derive(Clone, Copy, Debug, PartialEq, Eq)]
