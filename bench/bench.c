@@ -13,6 +13,7 @@ static const double least = 20e6; /* nanoseconds of one sample */
 
 static const struct calls proved = {
     "proved", nos_convert, nos_read_unsigned, nos_check_table, nos_look_up, nos_translate, nos_evaluate,
+    nos_convert_date,
 };
 static const struct calls *const sets[] = {&proved, &plain_by_clang, &plain_by_gcc};
 
@@ -64,9 +65,9 @@ static void check(const struct work *w, struct input *in)
                 (unsigned long long)first);
         exit(1);
     }
-    /* Of many answers too: a sum of accepted ones has these bits 0, unknown names that should be so among them. */
+    /* Of many answers too: a sum of accepted ones has these bits 0, and of refusals that are the wanted ones. */
     if ((first & 0xFFFF) == 0) return;
-    fprintf(stderr, "%s: what is timed should be accepted, and an unknown name unknown\n", w->name);
+    fprintf(stderr, "%s: what is timed should be accepted, or refused where that is wanted\n", w->name);
     exit(1);
 }
 

@@ -9,14 +9,14 @@
 enum { CHANGES = 400, WINDOW = 240, LENT = 4096, TOO_LONG = NOS_LONGEST + 1, LONGEST_NAME = 40 };
 
 struct asked {
-    uint8_t text[TOO_LONG], house[TOO_LONG], farm[TOO_LONG], name[LONGEST_NAME];
-    size_t length, house_length, farm_length, name_length, room;
+    uint8_t text[TOO_LONG], house[TOO_LONG], farm[TOO_LONG], name[LONGEST_NAME], time[2 * TIME_LENGTH];
+    size_t length, house_length, farm_length, name_length, time_length, room;
     uint32_t call, value, whole, limit, flags, allowance;
 };
 
 static uint8_t odd_byte(void)
 {
-    static const char bytes[] = "\"\"||<<>>!!&&  0012589azAZ_$()+-*/=@[^?\r\nMODANDNOTEOR<m3><m15>,#";
+    static const char bytes[] = "\"\"||<<>>!!&&  0012589azAZ_$()+-*/=@[^?\r\nMODANDNOTEOR<m3><m15>,#%%%%CSYRDN24";
     uint32_t i = chance(sizeof bytes + 4);
     return i < sizeof bytes ? (uint8_t)bytes[i] : (uint8_t)chance(256);
 }
@@ -75,6 +75,15 @@ static void choose_name(struct asked *a)
     if (a->name_length && chance(2)) a->name[chance((uint32_t)a->name_length)] ^= 32;
 }
 
+/* A time of the input or any other, often with a byte at one of its ends, and now and then not five bytes. */
+static void choose_time(struct asked *a, const struct input *in)
+{
+    for (size_t i = 0; i < sizeof a->time; i++) a->time[i] = (uint8_t)chance(256);
+    if (in->count && chance(2)) memcpy(a->time, in->dates.times[chance((uint32_t)in->count)], TIME_LENGTH);
+    if (chance(2)) a->time[chance(TIME_LENGTH)] = chance(2) ? 0 : 255;
+    a->time_length = chance(32) == 0 ? chance(sizeof a->time + 1) : TIME_LENGTH;
+}
+
 static void change(struct asked *a, const struct input *in)
 {
     struct nos_tables from = choose_tables(in);
@@ -82,6 +91,7 @@ static void change(struct asked *a, const struct input *in)
     change_table(a->farm, &a->farm_length, from.farm, from.farm_length);
     change_table(a->house, &a->house_length, from.house, from.house_length);
     choose_name(a);
+    choose_time(a, in);
     a->room = chance(2) ? chance(64) : LENT;
     a->call = chance(2) ? chance(30) + 0xCE : 0x28;
     a->call |= chance(8) == 0 ? 1u << chance(32) : 0;
@@ -94,12 +104,12 @@ static void change(struct asked *a, const struct input *in)
 
 /* Everything that a set answers and leaves in a buffer. */
 struct answers {
-    struct nos_answer converted, translated;
+    struct nos_answer converted, translated, dated;
     struct nos_number read;
     struct nos_checked checked_farm, checked_house;
     struct nos_variable found;
     struct nos_value evaluated, evaluated_name;
-    uint8_t left[2 * LENT];
+    uint8_t left[3 * LENT];
 };
 
 static void ask(const struct calls *c, const struct asked *a, struct answers *to)
@@ -113,6 +123,7 @@ static void ask(const struct calls *c, const struct asked *a, struct answers *to
     to->translated = c->translate(a->text, a->length, NOS_TABLES(*a), a->flags, a->allowance, to->left + LENT, a->room);
     to->evaluated = c->evaluate(a->text, a->length, NOS_TABLES(*a), a->allowance);
     to->evaluated_name = c->evaluate(a->name, a->name_length, NOS_TABLES(*a), a->allowance);
+    to->dated = c->convert_date(a->time, a->time_length, a->text, a->length, to->left + 2 * LENT, a->room);
 }
 
 static int same_answer(struct nos_answer a, struct nos_answer b)
@@ -147,6 +158,7 @@ static const char *difference(const struct answers *a, const struct answers *b)
     if (!same_answer(a->translated, b->translated)) return "translate";
     if (!same_value(a->evaluated, b->evaluated)) return "evaluate";
     if (!same_value(a->evaluated_name, b->evaluated_name)) return "evaluate of the name";
+    if (!same_answer(a->dated, b->dated)) return "convert_date";
     return memcmp(a->left, b->left, sizeof a->left) == 0 ? NULL : "a buffer";
 }
 
@@ -163,6 +175,8 @@ void check_changed(const struct work *w, struct input *in, const struct calls *c
             if (!what) continue;
             fprintf(stderr, "%s: %s and %s differ in %s over a changed input:\n", w->name, sets[0]->name, sets[s]->name, what);
             fprintf(stderr, "  call %x value %x room %zu flags %x allowance %u\n", a.call, a.value, a.room, a.flags, a.allowance);
+            fprintf(stderr, "  a time of %zu bytes, from the first %02x %02x %02x %02x %02x\n", a.time_length, a.time[0], a.time[1],
+                    a.time[2], a.time[3], a.time[4]);
             fprintf(stderr, "  a farm's table of %zu bytes, a house table of %zu, name %.*s, text %.*s\n", a.farm_length,
                     a.house_length, (int)a.name_length, (const char *)a.name, (int)a.length, (const char *)a.text);
             exit(1);

@@ -424,7 +424,128 @@ static void make_names_of_both(struct input *in, unsigned scale)
     add_names(in, scale, known_name);
 }
 
+/* ---- Dates. */
+
+static uint64_t run_dates(const struct calls *c, struct input *in)
+{
+    const struct dates *d = &in->dates;
+    uint64_t sum = 0;
+    for (size_t i = 0; i < in->count; i++) {
+        uint8_t *out = in->out + i * d->room;
+        sum = sum * 31 + sum_of_date(c->convert_date(d->times[i], TIME_LENGTH, in->text, in->length, out, d->room), d->wanted);
+    }
+    return sum;
+}
+
+/* So many times, each a chance number of hundredths behind the first. */
+static void add_times(struct input *in, size_t count, uint64_t first, uint64_t span)
+{
+    for (in->count = 0; in->count < count; in->count++) {
+        uint64_t by_chance = (uint64_t)chance(UINT32_MAX) << 32 | chance(UINT32_MAX), time = first + by_chance % span;
+        for (size_t i = 0; i < TIME_LENGTH; i++) in->dates.times[in->count][i] = (uint8_t)(time >> 8 * i);
+    }
+    make_ready(in);
+}
+
+static void add_all_times(struct input *in, size_t count)
+{
+    add_times(in, count, 0, (uint64_t)1 << 8 * TIME_LENGTH);
+}
+
+/* Bytes of a format, and the same for strftime. */
+static void add_format(struct input *in, const char *format, const char *like)
+{
+    size_t length = strlen(like);
+    add(in, format);
+    memcpy(in->dates.like + in->dates.like_length, like, length);
+    in->dates.like_length += length;
+}
+
+static void add_format_words(struct input *in, size_t length)
+{
+    add_words(in, length);
+    memcpy(in->dates.like + in->dates.like_length, in->text + in->length - length, length);
+    in->dates.like_length += length;
+}
+
+static void make_dates(struct input *in, unsigned scale, const char *format, const char *like)
+{
+    add_format(in, format, like);
+    add_all_times(in, scale * MOST_ITEMS / 2);
+    in->dates.room = SLOT;
+}
+
+static void make_stamps(struct input *in, unsigned scale)
+{
+    make_dates(in, scale, "%24:%MI:%SE %DY-%M3-%CE%YR", "%H:%M:%S %d-%b-%Y");
+}
+
+/* In June to August 1987. */
+static void make_summer_stamps(struct input *in, unsigned scale)
+{
+    static const uint64_t day = 8640000, june_1987 = 31927;
+    make_stamps(in, scale);
+    add_times(in, in->count, june_1987 * day, 92 * day);
+}
+
+static void make_book_dates(struct input *in, unsigned scale)
+{
+    make_dates(in, scale, "%W3,%DY %M3 %CE%YR.%24:%MI:%SE", "%a,%d %b %Y.%H:%M:%S");
+}
+
+static void make_days(struct input *in, unsigned scale)
+{
+    make_dates(in, scale, "%DY/%MN/%YR", "%d/%m/%y");
+}
+
+/* strftime has no hundredths. */
+static void make_all_fields(struct input *in, unsigned scale)
+{
+    make_dates(in, scale, "%24:%MI:%SE.%CS %W3 %DN %DY/%MN %M3 %CE%YR", "");
+}
+
+static void make_all_but_hundredths(struct input *in, unsigned scale)
+{
+    make_dates(in, scale, "%24:%MI:%SE %W3 %DN %DY/%MN %M3 %CE%YR", "%H:%M:%S %a %j %d/%m %b %C%y");
+}
+
+static void make_letters(struct input *in, unsigned scale)
+{
+    add_format(in, "%DY %M3 %CE%YR. ", "%d %b %Y. ");
+    add_format_words(in, scale * 484);
+    add_format(in, " %24:%MI:%SE", " %H:%M:%S");
+    add_all_times(in, MOST_ITEMS / 8);
+    in->dates.room = 1100;
+}
+
+static void make_field_every_8(struct input *in, unsigned scale)
+{
+    static const char *const fields[][2] = {{"%24", "%H"}, {"%DY", "%d"}, {"%M3", "%b"}, {"%YR", "%y"}, {"%DN", "%j"}, {"%MI", "%M"}};
+    while (in->length < scale * 30000) {
+        uint32_t i = chance(sizeof fields / sizeof *fields);
+        add_format_words(in, 5);
+        add_format(in, fields[i][0], fields[i][1]);
+    }
+    add_all_times(in, 4);
+    in->dates.room = ROOM / 4;
+}
+
+static void make_bad_fields(struct input *in, unsigned scale)
+{
+    make_dates(in, scale, "%24:%MI:%SE %DY-%M3-%CE%Yr", "");
+    in->dates.wanted = NOS_BAD_FIELD;
+}
+
+/* One byte too little for the string with its zero byte. */
+static void make_short_rooms(struct input *in, unsigned scale)
+{
+    make_stamps(in, scale);
+    in->dates.room = strlen("00:00:00 01-Jan-1900");
+    in->dates.wanted = NOS_NO_ROOM;
+}
+
 #define BYTES "the text's bytes"
+#define BOTH_CALLS "gmtime_r and strftime"
 const struct work works[] = {
     {"convert, all 26 calls, mixed values", "the conversions", make_all_calls, run_convert, NULL, NULL},
     {"convert, decimal and hex calls", "the conversions", make_printed_calls, run_convert, "snprintf", by_snprintf},
@@ -452,5 +573,16 @@ const struct work works[] = {
     {"evaluate, all operators", BYTES, make_mixture, run_evaluate, NULL, NULL},
     {"evaluate, a sum of names", BYTES " and names", make_names, run_evaluate, NULL, NULL},
     {"evaluate, a sum of names over both tables", BYTES " and names", make_names_of_both, run_evaluate, NULL, NULL},
+    {"convert_date, a diary stamp", "the dates", make_stamps, run_dates, BOTH_CALLS, by_gmtime_and_strftime},
+    {"convert_date, a diary stamp, beside strftime alone", "the dates", make_stamps, run_dates, "strftime", by_strftime_alone},
+    {"convert_date, a diary stamp, times of one summer", "the dates", make_summer_stamps, run_dates, BOTH_CALLS, by_gmtime_and_strftime},
+    {"convert_date, the book's format", "the dates", make_book_dates, run_dates, BOTH_CALLS, by_gmtime_and_strftime},
+    {"convert_date, a day only", "the dates", make_days, run_dates, BOTH_CALLS, by_gmtime_and_strftime},
+    {"convert_date, all fields", "the dates", make_all_fields, run_dates, NULL, NULL},
+    {"convert_date, all fields but hundredths", "the dates", make_all_but_hundredths, run_dates, BOTH_CALLS, by_gmtime_and_strftime},
+    {"convert_date, 1,000 bytes with 7 fields", "the bytes between fields", make_letters, run_dates, BOTH_CALLS, by_gmtime_and_strftime},
+    {"convert_date, a field every 8 bytes", "the format's bytes", make_field_every_8, run_dates, BOTH_CALLS, by_gmtime_and_strftime},
+    {"convert_date, refused for its last field", "the dates", make_bad_fields, run_dates, NULL, NULL},
+    {"convert_date, refused for room", "the dates", make_short_rooms, run_dates, NULL, NULL},
 };
 const size_t work_count = sizeof works / sizeof *works;

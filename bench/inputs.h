@@ -4,7 +4,9 @@
 
 #include "calls.h"
 
-enum { MOST_ITEMS = 1024, SLOT = 40, ROOM = 400000 };
+#include <time.h>
+
+enum { MOST_ITEMS = 1024, SLOT = 40, ROOM = 400000, TIME_LENGTH = 5 };
 
 /* A conversion, or a number or a name that stands in the text; `wanted` is the number that the name's look-up answers with. */
 struct item {
@@ -15,11 +17,21 @@ struct item {
     size_t start, length;
 };
 
+/* Times that the text, which is a format then, is used for, one string for each. */
+struct dates {
+    uint8_t times[MOST_ITEMS][TIME_LENGTH];
+    struct tm ready[MOST_ITEMS]; /* the same, as gmtime_r gives them */
+    char like[65536];            /* the same format, as strftime takes it */
+    size_t like_length, room;    /* the room of each string */
+    uint32_t wanted;             /* the number that each answer has */
+};
+
 /* The tables are named as in struct nos_tables, so that NOS_TABLES takes an input too. */
 struct input {
     uint8_t text[65536], house[65536], farm[65536], out[ROOM];
     size_t length, house_length, farm_length, count;
     struct item items[MOST_ITEMS];
+    struct dates dates;
 };
 
 /* One piece of work. It is made at two scales, 1 and 2: `doubled` tells what the second has twice of. */
@@ -43,6 +55,11 @@ uint64_t by_snprintf(struct input *in);
 uint64_t by_strtoul(struct input *in);
 uint64_t by_memcpy(struct input *in);
 uint64_t by_hash(struct input *in);
+uint64_t by_gmtime_and_strftime(struct input *in);
+uint64_t by_strftime_alone(struct input *in);
+
+/* Makes each time ready for strftime. */
+void make_ready(struct input *in);
 
 /* Every set answers changed inputs as the first does; ends the program otherwise. */
 void check_changed(const struct work *w, struct input *in, const struct calls *const *sets, size_t count);

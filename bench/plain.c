@@ -1,5 +1,6 @@
 /* The same work in plain C, as a careful emulator's author writes it by hand: the opponent of the benchmarks. Nothing here is
- * proved. It answers as include/nosgoludd.h says; the set's name comes from the command line, PLAIN_NAME. */
+ * proved. It answers as include/nosgoludd.h says; the set's name comes from the command line, PLAIN_NAME, and so does that of the
+ * function for dates, PLAIN_DATE, which is in dates.c. */
 #include "calls.h"
 
 #include <stdbool.h>
@@ -746,4 +747,5 @@ const struct calls PLAIN_NAME = {
     .look_up = look_up,
     .translate = translate,
     .evaluate = evaluate,
+    .convert_date = PLAIN_DATE,
 };

@@ -1,4 +1,6 @@
-/* What a C programmer would call for the same work, over the same inputs: snprintf, strtoul, memcpy, and a hash of names. */
+/* What a C programmer would call for the same work, over the same inputs: snprintf, strtoul, memcpy, a hash of names, gmtime_r and
+ * strftime. */
+#define _POSIX_C_SOURCE 200809L
 #include "inputs.h"
 
 #include <stdio.h>
@@ -57,4 +59,49 @@ uint64_t by_memcpy(struct input *in)
 uint64_t by_hash(struct input *in)
 {
     return sum_of_checked(hashed_check_table(in->house, in->house_length));
+}
+
+/* C's own count of a time, in whole seconds from 1970 on. */
+static time_t seconds_of(const uint8_t *time)
+{
+    static const int64_t from_1900_to_1970 = 2208988800;
+    uint64_t hundredths = 0;
+    for (size_t i = TIME_LENGTH; i > 0; i--) hundredths = hundredths << 8 | time[i - 1];
+    return (time_t)((int64_t)(hundredths / 100) - from_1900_to_1970);
+}
+
+void make_ready(struct input *in)
+{
+    for (size_t i = 0; i < in->count; i++) {
+        time_t seconds = seconds_of(in->dates.times[i]);
+        gmtime_r(&seconds, &in->dates.ready[i]);
+    }
+}
+
+/* strftime gives 0 where there is no room, and then no need; where it gives a length it wrote the string whole. */
+static uint64_t print_date(struct input *in, size_t i, const struct tm *broken)
+{
+    size_t room = in->dates.room;
+    size_t length = strftime((char *)in->out + i * room, room, in->dates.like, broken);
+    if (length == 0) return sum_of_answer((struct nos_answer){.number = NOS_NO_ROOM, .free = room});
+    return sum_of_answer((struct nos_answer){.place = length, .need = length + 1, .free = room - length});
+}
+
+uint64_t by_gmtime_and_strftime(struct input *in)
+{
+    uint64_t sum = 0;
+    for (size_t i = 0; i < in->count; i++) {
+        struct tm broken;
+        time_t seconds = seconds_of(in->dates.times[i]);
+        gmtime_r(&seconds, &broken);
+        sum = sum * 31 + print_date(in, i, &broken);
+    }
+    return sum;
+}
+
+uint64_t by_strftime_alone(struct input *in)
+{
+    uint64_t sum = 0;
+    for (size_t i = 0; i < in->count; i++) sum = sum * 31 + print_date(in, i, &in->dates.ready[i]);
+    return sum;
 }
