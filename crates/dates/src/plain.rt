@@ -8,7 +8,8 @@ ghost use Rattle.paper.specs.Bytes.{runOf};
 ghost use Rattle.runs.specs.inner.Stretches.{Stretch};
 ghost use Rattle.dates.specs.inner.Steps.{plainByte};
 
-// A block's length. Its weight is at most 2 for each byte, and so fits a byte.
+// A block's length. Its weight is at most 3 for each byte, and so fits a byte. The sum over a shorter block is unrolled by the compiler
+// before it makes vectors of it, and takes longer.
 const BLOCK: usize = 64;
 
 // How many bytes are looked at one by one before the first block.
@@ -21,7 +22,8 @@ fn hit(a: u8, b: u8) -> u8
     if a == b { 1 } else { 0 }
 }
 
-// 0 where a byte ends no run.
+// 0 where a byte ends no run. A percent sign weighs 2: of a sum of hits alone the compiler makes a count of the bits of a mask, which takes
+// several times as long.
 fn marks(c: u8) -> u8
     ensures { λ r. ⌜ (r ≤ 3) × (r ≡ 0 → plainByte c ≡ true) ⌝ }
 {
