@@ -1,7 +1,8 @@
-/* The conversion calls of an emulated ARM machine, served through the library: see handler.h. */
+/* The conversion calls of an emulated ARM machine, served through the library: see handler.h. Those of its variables are in
+ * handler_variables.c. */
 #include <string.h>
 
-#include "handler.h"
+#include "handler_parts.h"
 
 #define X_FORM (1u << 17)
 #define FLAG_BITS 0xE0000000u       /* the top three bits of a word that has flags beside a base or a size */
@@ -11,6 +12,10 @@
 
 enum {
     READ_UNSIGNED = 0x21,
+    READ_VARIABLE = 0x23,
+    SET_VARIABLE = 0x24,
+    GS_INIT = 0x25,
+    GS_READ = 0x26,
     GS_TRANS = 0x27,
     BINARY_TO_DECIMAL = 0x28,
     EVALUATE = 0x2D,
@@ -20,9 +25,19 @@ enum {
 };
 
 /* Every range goes through here before the library gets it. The sum of address and length is never formed, so it cannot wrap. */
-static bool is_memory(const struct machine *machine, uint32_t at, uint32_t length)
+bool swi_is_memory(const struct machine *machine, uint32_t at, uint32_t length)
 {
     return at <= machine->size && length <= machine->size - at;
+}
+
+struct nos_tables swi_tables(const struct machine *machine)
+{
+    struct nos_tables tables = {NULL, 0, machine->house, machine->house_length};
+    if (machine->farm != NULL) {
+        tables.farm = machine->farm->bytes;
+        tables.farm_length = machine->farm->length;
+    }
+    return tables;
 }
 
 /* The machine's own words where it has them; the library's for what the machine does not know. */
@@ -37,6 +52,11 @@ static const char *message_of(uint32_t refusal)
     case NOS_ZERO_DIVISOR: return "Division by zero";
     case NOS_OVER_LENGTH: return "Text or table over 65,535 bytes"; /* a time of this machine always has five */
     case BAD_ADDRESS: return "Bad address";
+    case BAD_TYPE: return "Bad variable type";
+    case BAD_NAME: return "Bad name";
+    case VALUE_TOO_LONG: return "Variable value too long";
+    case TABLE_FULL: return "No room for variable";
+    case NOT_SERVED_YET: return "GS reading comes later";
     }
     return nos_words(refusal);
 }
@@ -48,21 +68,27 @@ static struct error_block block_of(uint32_t refusal, const char *message)
     return block;
 }
 
-static struct served error(uint32_t refusal, uint32_t need)
+struct served swi_error_saying(const char *message, uint32_t refusal)
 {
-    struct served served = {RAISED, refusal, NOS_IN_THE_TEXT, need, block_of(refusal, message_of(refusal))};
+    struct served served = {RAISED, refusal, NOS_IN_THE_TEXT, 0, block_of(refusal, message)};
     return served;
 }
 
-/* A refusal of a string or an expression, or of one of the tables that it is read with: then the host learns which. */
-static struct served error_in(uint32_t refusal, uint32_t counted)
+struct served swi_error(uint32_t refusal, uint32_t need)
 {
-    struct served served = error(refusal, 0);
+    struct served served = swi_error_saying(message_of(refusal), refusal);
+    served.need = need;
+    return served;
+}
+
+struct served swi_error_in(uint32_t refusal, uint32_t counted)
+{
+    struct served served = swi_error(refusal, 0);
     served.counted = counted;
     return served;
 }
 
-static struct served ended(enum ending ending)
+struct served swi_ended(enum ending ending)
 {
     struct served served = {ending, 0, 0, 0, {0, ""}};
     return served;
@@ -76,7 +102,7 @@ struct string {
 };
 
 /* A format ends at a zero byte alone: it may have line ends to copy. */
-static bool ends_string(uint8_t byte) { return byte == 0 || byte == 10 || byte == 13; }
+bool swi_ends_string(uint8_t byte) { return byte == 0 || byte == 10 || byte == 13; }
 static bool ends_format(uint8_t byte) { return byte == 0; }
 
 /* Takes the string at an address up to the byte that ends it; false where memory ends before that byte. A string longer than the
@@ -138,20 +164,17 @@ static struct served read_unsigned(const struct machine *machine, struct registe
 {
     const uint32_t most = NOS_LONGEST - 3; /* room for a base and "_" */
     uint32_t flags = registers->r[0] & FLAG_BITS, base = registers->r[0] & ~FLAG_BITS, at = registers->r[1], limit = NOS_NO_LIMIT;
-    if (at >= machine->size) return error(BAD_ADDRESS, 0);
+    if (at >= machine->size) return swi_error(BAD_ADDRESS, 0);
     uint32_t left = machine->size - at, length = left < most ? left : most;
     if (flags & CHECK_R2) limit = registers->r[2];
     struct reading reading = read_in_base(machine->memory + at, length, base, flags & CHECK_TERMINATOR, limit);
-    if (reading.cut) return error(length < left ? (uint32_t)NOS_OVER_LENGTH : BAD_ADDRESS, 0);
-    if (reading.refusal != NOS_ACCEPTED) {
-        struct served served = error(reading.refusal, 0);
-        if (reading.refusal == NOS_OVER_LIMIT) served.error = block_of(NOS_OVER_LIMIT, "Number too big");
-        return served;
-    }
-    if (flags & CHECK_BYTE && reading.value > 255) return error(NOS_OVER_LIMIT, 0);
+    if (reading.cut) return swi_error(length < left ? (uint32_t)NOS_OVER_LENGTH : BAD_ADDRESS, 0);
+    if (reading.refusal == NOS_OVER_LIMIT) return swi_error_saying("Number too big", NOS_OVER_LIMIT);
+    if (reading.refusal != NOS_ACCEPTED) return swi_error(reading.refusal, 0);
+    if (flags & CHECK_BYTE && reading.value > 255) return swi_error(NOS_OVER_LIMIT, 0);
     registers->r[1] = at + (uint32_t)reading.place;
     registers->r[2] = reading.value;
-    return ended(SERVED);
+    return swi_ended(SERVED);
 }
 
 /* &27 OS_GSTrans.
@@ -168,10 +191,11 @@ static struct served gs_trans(const struct machine *machine, struct registers *r
 {
     struct string string;
     uint32_t size = registers->r[2] & ~FLAG_BITS, flags = registers->r[2] & FLAG_BITS, buffer = registers->r[1];
-    if (!take_string(machine, registers->r[0], ends_string, &string) || !is_memory(machine, buffer, size))
-        return error(BAD_ADDRESS, 0);
+    if (!take_string(machine, registers->r[0], swi_ends_string, &string) || !swi_is_memory(machine, buffer, size))
+        return swi_error(BAD_ADDRESS, 0);
     size_t room = size > 0 ? size - 1 : 0; /* without the terminator */
-    struct nos_answer answer = nos_translate(string.bytes, string.length, NOS_TABLES(machine->tables), flags, machine->allowance,
+    struct nos_tables tables = swi_tables(machine);
+    struct nos_answer answer = nos_translate(string.bytes, string.length, NOS_TABLES(tables), flags, machine->allowance,
                                              machine->memory + buffer, room);
     uint32_t need = (uint32_t)answer.need;
     if (answer.number == NOS_NO_ROOM || (answer.number == NOS_ACCEPTED && size == 0)) {
@@ -181,12 +205,12 @@ static struct served gs_trans(const struct machine *machine, struct registers *r
         registers->carry = true;
         return too_short;
     }
-    if (answer.number != NOS_ACCEPTED) return error_in(answer.number, answer.counted);
+    if (answer.number != NOS_ACCEPTED) return swi_error_in(answer.number, answer.counted);
     machine->memory[buffer + need] = string.bytes[answer.place];
     registers->r[0] += (uint32_t)answer.place + 1;
     registers->r[2] = need;
     registers->carry = false;
-    return ended(SERVED);
+    return swi_ended(SERVED);
 }
 
 /* &28 OS_BinaryToDecimal.
@@ -198,11 +222,11 @@ static struct served gs_trans(const struct machine *machine, struct registers *r
 static struct served binary_to_decimal(const struct machine *machine, struct registers *registers)
 {
     uint32_t buffer = registers->r[1], size = registers->r[2];
-    if (!is_memory(machine, buffer, size)) return error(BAD_ADDRESS, 0);
+    if (!swi_is_memory(machine, buffer, size)) return swi_error(BAD_ADDRESS, 0);
     struct nos_answer answer = nos_convert(NOS_DECIMAL, registers->r[0], machine->memory + buffer, size);
-    if (answer.number != NOS_ACCEPTED) return error(answer.number, (uint32_t)answer.need);
+    if (answer.number != NOS_ACCEPTED) return swi_error(answer.number, (uint32_t)answer.need);
     registers->r[2] = (uint32_t)answer.place;
-    return ended(SERVED);
+    return swi_ended(SERVED);
 }
 
 /* &2D OS_EvaluateExpression.
@@ -214,23 +238,24 @@ static struct served binary_to_decimal(const struct machine *machine, struct reg
 static struct served evaluate(const struct machine *machine, struct registers *registers)
 {
     struct string string;
-    if (!take_string(machine, registers->r[0], ends_string, &string)) return error(BAD_ADDRESS, 0);
-    struct nos_value answer = nos_evaluate(string.bytes, string.length, NOS_TABLES(machine->tables), machine->allowance);
-    if (answer.number != NOS_ACCEPTED) return error_in(answer.number, answer.counted);
+    if (!take_string(machine, registers->r[0], swi_ends_string, &string)) return swi_error(BAD_ADDRESS, 0);
+    struct nos_tables tables = swi_tables(machine);
+    struct nos_value answer = nos_evaluate(string.bytes, string.length, NOS_TABLES(tables), machine->allowance);
+    if (answer.number != NOS_ACCEPTED) return swi_error_in(answer.number, answer.counted);
     registers->r[1] = 0;
     registers->r[2] = (uint32_t)answer.value;
-    return ended(SERVED);
+    return swi_ended(SERVED);
 }
 
 /* What a conversion of &C1 and &D0 to &E8 gives the program: R0 the buffer's address, R1 that of the zero byte behind the string, R2
  * the bytes free from the zero byte on; or the error. */
 static struct served converted(struct nos_answer answer, uint32_t buffer, struct registers *registers)
 {
-    if (answer.number != NOS_ACCEPTED) return error(answer.number, (uint32_t)answer.need);
+    if (answer.number != NOS_ACCEPTED) return swi_error(answer.number, (uint32_t)answer.need);
     registers->r[0] = buffer;
     registers->r[1] = buffer + (uint32_t)answer.place;
     registers->r[2] = (uint32_t)answer.free;
-    return ended(SERVED);
+    return swi_ended(SERVED);
 }
 
 /* &C1 OS_ConvertDateAndTime.
@@ -245,9 +270,9 @@ static struct served convert_date(const struct machine *machine, struct register
     struct string format;
     uint8_t time[NOS_TIME];
     uint32_t at = registers->r[0], buffer = registers->r[1], size = registers->r[2];
-    if (!is_memory(machine, at, NOS_TIME) || !is_memory(machine, buffer, size)
+    if (!swi_is_memory(machine, at, NOS_TIME) || !swi_is_memory(machine, buffer, size)
         || !take_string(machine, registers->r[3], ends_format, &format))
-        return error(BAD_ADDRESS, 0);
+        return swi_error(BAD_ADDRESS, 0);
     memcpy(time, machine->memory + at, NOS_TIME);
     struct nos_answer answer = nos_convert_date(time, NOS_TIME, format.bytes, format.length, machine->memory + buffer, size);
     return converted(answer, buffer, registers);
@@ -261,20 +286,32 @@ static struct served convert_date(const struct machine *machine, struct register
 static struct served convert(const struct machine *machine, uint32_t call, struct registers *registers)
 {
     uint32_t buffer = registers->r[1], size = registers->r[2];
-    if (!is_memory(machine, buffer, size)) return error(BAD_ADDRESS, 0);
+    if (!swi_is_memory(machine, buffer, size)) return swi_error(BAD_ADDRESS, 0);
     return converted(nos_convert(call, registers->r[0], machine->memory + buffer, size), buffer, registers);
 }
 
 static bool is_mine(uint32_t call)
 {
-    return call == READ_UNSIGNED || call == GS_TRANS || call == BINARY_TO_DECIMAL || call == EVALUATE
-        || call == CONVERT_DATE || (call >= CONVERT_FIRST && call <= CONVERT_LAST);
+    return call == READ_UNSIGNED || (call >= READ_VARIABLE && call <= BINARY_TO_DECIMAL) || call == EVALUATE || call == CONVERT_DATE
+        || (call >= CONVERT_FIRST && call <= CONVERT_LAST);
+}
+
+/* Whether the host lends the places that a call writes to: that of errors, and for the calls of variables that of a name. At 0 a name
+ * could not be told from none. */
+static bool has_places(const struct machine *machine, uint32_t call)
+{
+    bool names = call == READ_VARIABLE || call == SET_VARIABLE;
+    return swi_is_memory(machine, machine->error_at, ERROR_ROOM)
+        && (!names || (machine->name_at != 0 && swi_is_memory(machine, machine->name_at, NAME_ROOM)));
 }
 
 static struct served serve(const struct machine *machine, uint32_t call, struct registers *registers)
 {
     switch (call) {
     case READ_UNSIGNED: return read_unsigned(machine, registers);
+    case READ_VARIABLE: return swi_read_variable(machine, registers);
+    case SET_VARIABLE: return swi_set_variable(machine, registers);
+    case GS_INIT: case GS_READ: return swi_error(NOT_SERVED_YET, 0);
     case GS_TRANS: return gs_trans(machine, registers);
     case BINARY_TO_DECIMAL: return binary_to_decimal(machine, registers);
     case EVALUATE: return evaluate(machine, registers);
@@ -292,8 +329,8 @@ static void put_block(uint8_t *at, const struct error_block *block)
 struct served handle_swi(const struct machine *machine, uint32_t swi, struct registers *registers)
 {
     uint32_t call = swi & ~X_FORM;
-    if (!is_mine(call)) return ended(NOT_MINE);
-    if (!is_memory(machine, machine->error_at, ERROR_ROOM)) return ended(NO_BLOCK);
+    if (!is_mine(call)) return swi_ended(NOT_MINE);
+    if (!has_places(machine, call)) return swi_ended(NO_BLOCK);
     struct served served = serve(machine, call, registers);
     registers->overflow = served.ending != SERVED;
     if (served.ending == SERVED) return served;

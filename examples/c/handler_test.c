@@ -1,27 +1,19 @@
-/* Tests of handler.c: a small emulated machine makes every call, and after each one all registers, flags and bytes of memory are
- * checked. The first thing that is off is named, and ends the test with status 1. */
+/* Tests of the handler: a small emulated machine makes every call, and after each one all registers, flags and bytes of memory are
+ * checked. The first thing that is off is named, and ends the test with status 1. Here are the calls that convert; &23
+ * and &24 have files of their own. */
 #include <inttypes.h>
 #include <stdio.h>
 #include <stdlib.h>
 #include <string.h>
 
-#include "handler.h"
-
-#define X 0x20000u
-#define BIT_29 (1u << 29)
-#define BIT_30 (1u << 30)
-#define BIT_31 (1u << 31)
-#define FAR 0xFFFFFFFFu
-
-/* The memory stands between margins that belong to the host: no call may touch them. */
-enum { MARGIN = 16, SIZE = 0x20000, TEXT = 0x100, BUFFER = 0x800, ERRORS = 0x40, TIME = 0x80 };
+#include "handler_test.h"
 
 static uint8_t host[MARGIN + SIZE + MARGIN], as_it_was[sizeof host];
-static uint8_t *const memory = host + MARGIN;
+uint8_t *const memory = host + MARGIN;
 static size_t tests;
 
 /* The machine's own: a string Farm, an integer Sum of -1250, a macro Page with a name of the house, a macro Loop in itself. */
-static uint8_t farm[] = {
+const uint8_t own_bytes[OWN] = {
     86, 82, 0, 4, 3, 'F', 'a', 'r', 'm', 'A', 's', 'h',
     86, 82, 1, 3, 4, 'S', 'u', 'm', 0x1E, 0xFB, 0xFF, 0xFF,
     86, 82, 2, 4, 6, 'P', 'a', 'g', 'e', '<', 'Y', 'e', 'a', 'r', '>',
@@ -29,18 +21,22 @@ static uint8_t farm[] = {
 };
 
 /* The house's: a macro Head with a name of both, strings Farm and Sum, which the machine's own hide, an integer Year of 1989. */
-static uint8_t house[] = {
+const uint8_t shared_bytes[SHARED] = {
     86, 82, 2, 4, 7, 'H', 'e', 'a', 'd', '<', 'F', 'a', 'r', 'm', '>', '!',
     86, 82, 0, 4, 1, 'F', 'a', 'r', 'm', '?',
     86, 82, 0, 3, 4, 'S', 'u', 'm', 'n', 'o', 'n', 'e',
     86, 82, 1, 4, 4, 'Y', 'e', 'a', 'r', 0xC5, 0x07, 0x00, 0x00,
 };
 
-static uint8_t too_long[NOS_LONGEST + 1];
+uint8_t too_long[NOS_LONGEST + 1];
 
-static const struct machine usual = {host + MARGIN, SIZE, {farm, sizeof farm, house, sizeof house}, 1024, ERRORS};
+/* The calls of this file change no table. */
+static uint8_t own[OWN];
+static struct table own_table = {own, OWN, OWN};
 
-static void check(bool holds, const char *what, const char *claim)
+const struct machine usual = {host + MARGIN, SIZE, &own_table, shared_bytes, SHARED, 1024, ERRORS, NAMES};
+
+void check(bool holds, const char *what, const char *claim)
 {
     if (holds) return;
     printf("OFF, %s: this does not hold: %s\n", what, claim);
@@ -77,6 +73,8 @@ struct nos_answer __wrap_nos_translate(const uint8_t *text, size_t length, const
                                        size_t room)
 {
     check(are_apart(text, length, out, room), "a translation", "the buffer does not overlap the text");
+    check(are_apart(farm, farm_length, out, room), "a translation", "the buffer does not overlap the farm's table");
+    check(are_apart(house, house_length, out, room), "a translation", "the buffer does not overlap the house's");
     return __real_nos_translate(text, length, farm, farm_length, house, house_length, flags, allowance, out, room);
 }
 
@@ -84,20 +82,7 @@ struct nos_answer __wrap_nos_translate(const uint8_t *text, size_t length, const
 }
 #endif
 
-/* A call, and what must come of it. */
-struct test {
-    const char *what;
-    uint32_t swi;
-    const char *text; /* goes to text_at, with no zero byte of its own; NULL: none */
-    uint32_t text_at, r0, r1, r2;
-    struct served served; /* the error's number is left out */
-    uint32_t out0, out1, out2;
-    bool carry;
-    const char *written; /* stands at written_at afterwards, and no other byte changes but those of an error block */
-    uint32_t written_at, length;
-};
-
-static void lay_out(const char *text, uint32_t at)
+void lay_out(const char *text, uint32_t at)
 {
     for (size_t i = 0; i < sizeof host; i++) host[i] = (uint8_t)(0x80 + i % 113);
     memset(memory + SIZE, '\r', MARGIN); /* would end a string that memory does not */
@@ -105,14 +90,22 @@ static void lay_out(const char *text, uint32_t at)
     memcpy(as_it_was, host, sizeof host);
 }
 
+void add(uint32_t at, const void *bytes, size_t length)
+{
+    memcpy(memory + at, bytes, length);
+    memcpy(as_it_was + MARGIN + at, bytes, length);
+}
+
 static const char *const endings[] = {"not mine", "served", "returned", "raised", "no error block"};
 
-static void print(const struct test *test, const struct served *served, const struct registers *registers)
+static void print(const struct test *test, const struct more *more, const struct served *served, const struct registers *registers)
 {
     printf("&%02" PRIX32 " %s: %s", test->swi, test->what, endings[served->ending]);
     if (served->ending == SERVED)
         printf(", R0 &%" PRIX32 " R1 &%" PRIX32 " R2 &%" PRIX32 "%s", registers->r[0], registers->r[1], registers->r[2],
                (test->swi & ~X) != 0x27 ? "" : registers->carry ? ", C set" : ", C clear");
+    if (served->ending == SERVED && more->found != NULL)
+        printf(" R3 &%" PRIX32 " R4 %" PRIu32 ", %s", registers->r[3], registers->r[4], more->found);
     if (served->refusal != 0) printf(", refusal %" PRIu32, served->refusal);
     if (served->counted != NOS_IN_THE_TEXT) printf(" of the %s table", served->counted == NOS_IN_THE_FARM ? "farm's" : "house");
     if (served->need != 0) printf(", need %" PRIu32, served->need);
@@ -132,19 +125,24 @@ static void check_block(const struct machine *machine, const struct test *test, 
     memcpy(block, as_it_was + (block - host), ERROR_ROOM);
 }
 
-static void check_the_rest(const struct test *test)
+/* Bytes that a call has written are compared, and taken back out of the comparison of all the others. */
+static void check_written(const struct test *test, uint32_t at, const char *bytes, size_t length, const char *claim)
 {
-    if (test->written != NULL) {
-        check(memcmp(memory + test->written_at, test->written, test->length) == 0, test->what, "what was written");
-        memcpy(memory + test->written_at, as_it_was + MARGIN + test->written_at, test->length);
-    }
+    check(memcmp(memory + at, bytes, length) == 0, test->what, claim);
+    memcpy(memory + at, as_it_was + MARGIN + at, length);
+}
+
+static void check_the_rest(const struct machine *machine, const struct test *test, const char *found)
+{
+    if (test->written != NULL) check_written(test, test->written_at, test->written, test->length, "what was written");
+    if (found != NULL) check_written(test, machine->name_at, found, strlen(found) + 1, "the name that was found");
     check(memcmp(host, as_it_was, sizeof host) == 0, test->what, "every other byte is as it was");
 }
 
-static void run_with_r3(const struct machine *machine, const struct test *test, uint32_t r3, bool carry)
+void run_with(const struct machine *machine, const struct test *test, const struct more *more, bool carry)
 {
-    struct registers registers = {{test->r0, test->r1, test->r2, r3}, carry, !carry};
-    for (size_t i = 4; i < 16; i++) registers.r[i] = 0xAB00 + (uint32_t)i;
+    struct registers registers = {{test->r0, test->r1, test->r2, more->r3, more->r4}, carry, !carry};
+    for (size_t i = 5; i < 16; i++) registers.r[i] = 0xAB00 + (uint32_t)i;
     struct registers expected = registers;
     struct served served = handle_swi(machine, test->swi, &registers);
     bool failed = served.ending == RETURNED || served.ending == RAISED;
@@ -152,10 +150,12 @@ static void run_with_r3(const struct machine *machine, const struct test *test, 
         expected.r[0] = failed ? machine->error_at : test->out0;
         expected.r[1] = failed ? test->r1 : test->out1;
         expected.r[2] = failed ? test->r2 : test->out2;
+        expected.r[3] = failed ? more->r3 : more->out3;
+        expected.r[4] = failed ? more->r4 : more->out4;
         expected.carry = (test->swi & ~X) == 0x27 && !failed ? test->carry : carry;
         expected.overflow = failed;
     }
-    print(test, &served, &registers);
+    print(test, more, &served, &registers);
     check(served.ending == test->served.ending, test->what, "the ending");
     check(served.refusal == test->served.refusal, test->what, "the refusal");
     check(served.counted == test->served.counted, test->what, "the table that was refused");
@@ -163,8 +163,15 @@ static void run_with_r3(const struct machine *machine, const struct test *test, 
     check(memcmp(registers.r, expected.r, sizeof expected.r) == 0, test->what, "the registers");
     check(registers.carry == expected.carry && registers.overflow == expected.overflow, test->what, "the flags");
     if (failed) check_block(machine, test, &served);
-    check_the_rest(test);
+    check_the_rest(machine, test, failed ? NULL : more->found);
     tests++;
+}
+
+/* A call that knows nothing of R4, and at most reads R3. */
+static void run_with_r3(const struct machine *machine, const struct test *test, uint32_t r3, bool carry)
+{
+    const struct more more = {r3, 0xAB04, r3, 0xAB04, NULL};
+    run_with(machine, test, &more, carry);
 }
 
 static void run_on(const struct machine *machine, const struct test *test, bool carry)
@@ -182,15 +189,9 @@ static void run(const struct machine *machine, const struct test *list, size_t c
 }
 
 #define RUN(list) run(&usual, list, sizeof list / sizeof list[0])
-#define ENDED(ending) {ending, 0, 0, 0, {0, ""}}
-#define DONE ENDED(SERVED)
 #define SHORT(need) {SERVED, NOS_NO_ROOM, 0, need, {0, ""}}
-#define LONG "Text or table over 65,535 bytes"
-#define FAILS(what, swi, text, text_at, r0, r1, r2, refusal, need, message) \
-    {what, swi, text, text_at, r0, r1, r2, {(swi) & X ? RETURNED : RAISED, refusal, 0, need, {0, message}}, 0, 0, 0, 0, NULL, 0, 0}
 #define BAD(what, swi, text, refusal, counted, message) \
-    {what, swi, text, TEXT, TEXT, BUFFER, 64, {(swi) & X ? RETURNED : RAISED, refusal, counted, 0, {0, message}}, \
-     0, 0, 0, 0, NULL, 0, 0}
+    {what, swi, text, TEXT, TEXT, BUFFER, 64, FAILED(swi, refusal, counted, 0, message), 0, 0, 0, 0, NULL, 0, 0}
 
 static void read_unsigned(void)
 {
@@ -449,14 +450,26 @@ static void dates_over(void)
 /* Other calls are left alone, though the registers would do. */
 static void others(void)
 {
-    static const uint32_t swis[] = {0x00, 0x20, 0x22, 0x26, 0x29, 0x2C, 0x2E, 0xC0, 0xC2, X + 0xC0, X + 0xC2, 0xCF, 0xE9, X + 0xE9,
-                                    0x400C1, 0x400D8, 0x10027, 0xFFFFFF};
+    static const uint32_t swis[] = {0x00, 0x20, 0x22, X + 0x22, 0x29, X + 0x29, 0x10023, 0x40024, 0x2C, 0x2E, 0xC0, 0xC2, X + 0xC0,
+                                    X + 0xC2, 0xCF, 0xE9, X + 0xE9, 0x400C1, 0x400D8, 0x10027, 0xFFFFFF};
     for (size_t i = 0; i < sizeof swis / sizeof swis[0]; i++) {
         const struct test list[] = {
             {"another call", swis[i], "1\r", TEXT, TEXT, BUFFER, 64, ENDED(NOT_MINE), 0, 0, 0, 0, NULL, 0, 0},
         };
         RUN(list);
     }
+}
+
+/* Calls that come later say so, and whatever their registers are change nothing. */
+static void later(void)
+{
+    static const struct test list[] = {
+        FAILS("reading a string begun", 0x25, "a\r", TEXT, TEXT, 0, 0, NOT_SERVED_YET, 0, "GS reading comes later"),
+        FAILS("reading a string begun", X + 0x25, "a\r", TEXT, TEXT, 0, BIT_29, NOT_SERVED_YET, 0, "GS reading comes later"),
+        FAILS("a byte of a string read", 0x26, "a\r", TEXT, TEXT, 0, 0, NOT_SERVED_YET, 0, "GS reading comes later"),
+        FAILS("a byte of a string read", X + 0x26, NULL, 0, FAR, FAR, FAR, NOT_SERVED_YET, 0, "GS reading comes later"),
+    };
+    RUN(list);
 }
 
 /* What the host lends decides too: the allowance, the place for errors. */
@@ -494,32 +507,39 @@ static void house_alone(void)
         FAILS("no table", 0x2D, "year\r", TEXT, TEXT, BUFFER, 64, 10, 0, "System variable not found"),
     };
     struct machine machine = usual;
-    machine.tables.farm = NULL;
-    machine.tables.farm_length = 0;
+    struct table empty = table_make(NULL, 0);
+    machine.farm = &empty;
     run(&machine, shown, 2);
-    machine.tables.house = NULL;
-    machine.tables.house_length = 0;
+    machine.farm = NULL;
+    run(&machine, shown, 2);
+    machine.house = NULL;
+    machine.house_length = 0;
     run(&machine, none, 2);
 }
 
 /* Both tables are judged, though nothing is named: their lengths first, then their records, and of each the farm's first. */
 static void bad_tables(void)
 {
-    static const struct { struct nos_tables tables; struct test test; } list[] = {
-        {{farm, sizeof farm - 1, house, sizeof house}, BAD("a bad farm", 0x27, "a\r", 13, NOS_IN_THE_FARM, "Bad table")},
-        {{farm, sizeof farm - 1, house, sizeof house}, BAD("a bad farm", X + 0x2D, "1\r", 13, NOS_IN_THE_FARM, "Bad table")},
-        {{farm, sizeof farm, house, sizeof house - 1}, BAD("a bad house", 0x27, "a\r", 13, NOS_IN_THE_HOUSE, "Bad table")},
-        {{farm, sizeof farm, house, sizeof house - 1}, BAD("a bad house", X + 0x2D, "1\r", 13, NOS_IN_THE_HOUSE, "Bad table")},
-        {{farm, sizeof farm - 1, house, sizeof house - 1}, BAD("both bad", 0x27, "a\r", 13, NOS_IN_THE_FARM, "Bad table")},
-        {{farm, sizeof farm - 1, house, sizeof house - 1}, BAD("both bad", X + 0x2D, "1\r", 13, NOS_IN_THE_FARM, "Bad table")},
-        {{farm, sizeof farm - 1, too_long, sizeof too_long}, BAD("a house too long", 0x27, "a\r", 18, NOS_IN_THE_HOUSE, LONG)},
-        {{farm, sizeof farm - 1, too_long, sizeof too_long}, BAD("a house too long", X + 0x2D, "1\r", 18, NOS_IN_THE_HOUSE, LONG)},
-        {{too_long, sizeof too_long, too_long, sizeof too_long}, BAD("both too long", 0x27, "a\r", 18, NOS_IN_THE_FARM, LONG)},
-        {{too_long, sizeof too_long, too_long, sizeof too_long}, BAD("both too long", X + 0x2D, "1\r", 18, NOS_IN_THE_FARM, LONG)},
+    static const struct { struct table farm; const uint8_t *house; size_t house_length; struct test test; } list[] = {
+        {{own, OWN - 1, OWN}, shared_bytes, SHARED, BAD("a bad farm", 0x27, "a\r", 13, NOS_IN_THE_FARM, "Bad table")},
+        {{own, OWN - 1, OWN}, shared_bytes, SHARED, BAD("a bad farm", X + 0x2D, "1\r", 13, NOS_IN_THE_FARM, "Bad table")},
+        {{own, OWN, OWN}, shared_bytes, SHARED - 1, BAD("a bad house", 0x27, "a\r", 13, NOS_IN_THE_HOUSE, "Bad table")},
+        {{own, OWN, OWN}, shared_bytes, SHARED - 1, BAD("a bad house", X + 0x2D, "1\r", 13, NOS_IN_THE_HOUSE, "Bad table")},
+        {{own, OWN - 1, OWN}, shared_bytes, SHARED - 1, BAD("both bad", 0x27, "a\r", 13, NOS_IN_THE_FARM, "Bad table")},
+        {{own, OWN - 1, OWN}, shared_bytes, SHARED - 1, BAD("both bad", X + 0x2D, "1\r", 13, NOS_IN_THE_FARM, "Bad table")},
+        {{own, OWN - 1, OWN}, too_long, sizeof too_long, BAD("a house too long", 0x27, "a\r", 18, NOS_IN_THE_HOUSE, LONG)},
+        {{own, OWN - 1, OWN}, too_long, sizeof too_long, BAD("a house too long", X + 0x2D, "1\r", 18, NOS_IN_THE_HOUSE, LONG)},
+        {{too_long, sizeof too_long, sizeof too_long}, too_long, sizeof too_long,
+         BAD("both too long", 0x27, "a\r", 18, NOS_IN_THE_FARM, LONG)},
+        {{too_long, sizeof too_long, sizeof too_long}, too_long, sizeof too_long,
+         BAD("both too long", X + 0x2D, "1\r", 18, NOS_IN_THE_FARM, LONG)},
     };
     for (size_t i = 0; i < sizeof list / sizeof list[0]; i++) {
         struct machine machine = usual;
-        machine.tables = list[i].tables;
+        struct table bad = list[i].farm;
+        machine.farm = &bad;
+        machine.house = list[i].house;
+        machine.house_length = list[i].house_length;
         run(&machine, &list[i].test, 1);
     }
 }
@@ -572,6 +592,7 @@ static void messages(void)
 
 int main(void)
 {
+    memcpy(own, own_bytes, OWN);
     messages();
     read_unsigned();
     gs_trans();
@@ -582,10 +603,13 @@ int main(void)
     dates_at_the_end();
     dates_over();
     others();
+    later();
     hosts();
     house_alone();
     bad_tables();
     long_strings();
+    reading();
+    setting();
     printf("%zu calls, nothing is off\n", tests);
     return 0;
 }
