@@ -46,18 +46,3 @@ install_missing() {
     tell "installing ${missing[*]}"
     get_packages </dev/null >"$logs/install.log" 2>&1 || fail "could not install ${missing[*]}: $(tail -n 3 "$logs/install.log")"
 }
-
-# make_by FILE COMMAND..: runs a command of rt that makes a file, where that is not there or older than the crates. Folders count
-# too: a file that was removed shows in the time of its folder. The time that counts is that of the command's start.
-make_by() {
-    local file=$1 made=$logs/${1##*/}.made
-    shift
-    if [ -f "$file" ] && [ -f "$made" ] && [ -z "$(find crates.txt crates -name must-fail -prune -o -newer "$made" -print -quit)" ]; then return; fi
-    command -v rt >/dev/null || fail "rt, which proves the crates and makes $file, is not on the PATH"
-    tell "proving the crates for $file; from nothing this takes some minutes"
-    rm -f "$made"
-    : >"$made.start"
-    "$@" </dev/null >"$made.log" 2>&1 || fail "$* failed: $(cat "$made.log")"
-    [ -f "$file" ] || fail "$* made no $file: remove target/ and start again"
-    mv "$made.start" "$made"
-}

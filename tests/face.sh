@@ -3,17 +3,17 @@
 # shellcheck shell=bash
 
 logs=target/${me##*/}
-archive=target/staticlib/libnosgoludd.a
 oracle=oracle/target/release/oracle
 patience=600 # seconds for the cases of one comparison: what takes longer counts as a difference
 mkdir -p "$logs"
 . scripts/x86_64.sh
+. scripts/library.sh
 
 # The program that answers cases through the C face, $logs/face.
 build_face() {
     find_compiler
     install_missing
-    make_by "$archive" rt staticlib nosgoludd
+    make_archive
     "$compiler" -std=c99 -pedantic -Wall -Wextra -Werror -O2 -Iinclude -o "$logs/face" tests/face.c "$archive"
 }
 
