@@ -2,7 +2,7 @@
  * whole or refused.
  *
  * An office certifies organic farms from old diaries. Once a quantity fell across the end of a 1,048,576-byte buffer, the
- * conversion cut it, and the rows behind it were never seen. So a conversion or a translation comes whole, or it is refused and
+ * conversion cut it, and the rows after it were never seen. So a conversion or a translation comes whole, or it is refused and
  * writes nothing, and where room was all it lacked the refusal carries the need: ask again with that room.
  *
  * Link libnosgoludd.a: x86-64 Linux, and all it needs is memcpy and memset of the C library. The functions are proved to give
@@ -10,7 +10,7 @@
  * once. A call takes at most NOS_STACK bytes of stack: what the archive's code adds up to along its deepest calls, and at least a
  * third of that more, for memcpy, memset and the linker; tests/stack adds it up, and measures it over the deepest inputs.
  *
- * What the proof asks of you: a pointer points to as many bytes as the room or length behind it says, which may be read, and for
+ * What the proof asks of you: a pointer points to as many bytes as the room or length after it says, which may be read, and for
  * buf and out written. Nothing else (a thread, a shared mapping) writes any of them before the call returns, nor reads those of
  * buf and out; out overlaps neither text nor tables, and buf neither time nor format. With a room or a length of 0 the pointer is not
  * used and may be NULL: the compiled code was looked at for that, and examples/c runs every one so.
@@ -30,6 +30,7 @@
 #include <stddef.h>
 #include <stdint.h>
 
+#define NOS_VERSION "1.2.1"       /* each change request raises the second number, other work the third; CHANGES.md has them all */
 #define NOS_STACK 49152u          /* the most bytes of stack that a call takes */
 #define NOS_LONGEST 65535u        /* the longest text, format or table that is read, in bytes */
 #define NOS_TIME 5u               /* the bytes of a time */
@@ -144,7 +145,7 @@ enum nos_call {
     NOS_SPACED_SIGNED_1 = 0xE5, NOS_SPACED_SIGNED_2, NOS_SPACED_SIGNED_3, NOS_SPACED_SIGNED_4
 };
 
-/* Writes a value as a string, with a zero byte behind it, to the start of buf.
+/* Writes a value as a string, with a zero byte after it, to the start of buf.
  *
  *   call         string                      uses of the value         of 1048576, widest call   most need
  *   &D0 to &D4   hex, 1, 2, 4, 6, 8 digits   that many low nibbles     00100000                   9
@@ -156,11 +157,11 @@ enum nos_call {
  *   &28          the same as &DC             4 bytes                   1048576                   12
  *
  * Hex and binary keep their leading zeros, and hex letters are capitals. Decimal has no leading zero, and zero is "0".
- * Spaced: one space between groups of three digits counted from the right, none behind a minus: -2 147 483 648.
+ * Spaced: one space between groups of three digits counted from the right, none after a minus: -2 147 483 648.
  * Bit 17 of the call (0x20000, the X form) makes no difference; every other number is an unknown call.
  *
  *   accepted   place: the offset of the zero byte in buf. need: the bytes written, the zero byte with them, so one more than the place.
- *              free: room - place, so the zero byte counts as free. Bytes of buf behind the zero byte stay as they were
+ *              free: room - place, so the zero byte counts as free. Bytes of buf after the zero byte stay as they were
  *   refused    place 0, free: the room, and every byte of buf stays as it was. The first of these that holds:
  *              14 NOS_UNKNOWN_CALL   need 0, at any room
  *               1 NOS_NO_ROOM        the room is less than the need, which is in the answer
@@ -173,13 +174,13 @@ enum nos_call {
  */
 struct nos_answer nos_convert(uint32_t call, uint32_t value, uint8_t *buf, size_t room);
 
-/* Writes a time as a string by a format, with a zero byte behind it, to the start of buf, as call &C1 does. nos_convert does not take
+/* Writes a time as a string by a format, with a zero byte after it, to the start of buf, as call &C1 does. nos_convert does not take
  * &C1: to it that is an unknown call.
  *
  *   time     five bytes, the lowest first: hundredths of a second since 00:00:00 on 1 January 1900, a Monday. All of them are times;
  *            the largest is 06:57:57.75 on 3 June 2248. 1900, 2100 and 2200 have no 29 February
- *   format   ends at its first zero byte or at its length. Bytes behind that end are not read, but count for the length. A percent sign
- *            and the two bytes behind it are a field, "%%" gives one percent sign, and every other byte, 10 and 13 too, gives itself
+ *   format   ends at its first zero byte or at its length. Bytes after that end are not read, but count for the length. A percent sign
+ *            and the two bytes after it are a field, "%%" gives one percent sign, and every other byte, 10 and 13 too, gives itself
  *
  *   field       gives                               field       gives
  *   %CS         hundredths, 00 to 99                %MN         month, 01 to 12
@@ -188,12 +189,12 @@ struct nos_answer nos_convert(uint32_t call, uint32_t value, uint8_t *buf, size_
  *   %24         hours, 00 to 23                     %YR         the year's last two digits, 00 to 99
  *   %DY         day of the month, 01 to 31          %DN         day of the year, 001 to 366
  *   %W3         day of the week, Mon Tue Wed Thu Fri Sat Sun
- * Fields are read from the left, so "%%CS" gives "%CS". Bad: whatever else stands behind a percent sign, the book's other fields and
- * small letters among it, and the format's end there or one byte behind it.
+ * Fields are read from the left, so "%%CS" gives "%CS". Bad: whatever else stands after a percent sign, the book's other fields and
+ * small letters among it, and the format's end there or one byte after it.
  *
- * The need goes by the format alone, not by the time: one ask serves a whole column of dates. It is at most the format's length and 1.
+ * The need depends on the format alone, not on the time: one ask serves a whole column of dates. It is at most the format's length and 1.
  *   accepted   place: the offset of the zero byte in buf. need: the bytes written, the zero byte with them, so one more than the place.
- *              free: room - place, so the zero byte counts as free. Bytes of buf behind the zero byte stay as they were
+ *              free: room - place, so the zero byte counts as free. Bytes of buf after the zero byte stay as they were
  *   refused    free: the room, and every byte of buf stays as it was. The first of these that holds:
  *              18 NOS_OVER_LENGTH   the format is longer than 65,535 bytes, or the time is not five; place 0, need 0
  *              19 NOS_BAD_FIELD     the percent sign of the leftmost bad field, in the format; need 0
@@ -215,16 +216,16 @@ struct nos_answer nos_convert_date(const uint8_t *time, size_t time_length, cons
  *
  *   &1F        "&" and hex digits
  *   2_1101     a base from 2 to 36 in decimal digits, "_", and digits of that base
- *   1048576    decimal digits; with "_" directly behind them they are always a base
+ *   1048576    decimal digits; with "_" directly after them they are always a base
  *
  * Letters of either case are digits from 10. Reading stops at the first byte that is no digit of the base. Only `length` ends
  * the text: a zero byte is like any other byte that is no digit.
  *
- *   whole    0: off. Any other number: the byte behind the number must be at most 32, or the text must end there.
+ *   whole    0: off. Any other number: the byte after the number must be at most 32, or the text must end there.
  *   limit    the largest value that is accepted
  *
  *   accepted   value, and place: that of the first byte not read
- *   refused    value 0. The first of these that holds; the number's start is the first byte behind the spaces:
+ *   refused    value 0. The first of these that holds; the number's start is the first byte after the spaces:
  *              18 NOS_OVER_LENGTH   the text is longer than 65,535 bytes; place 0
  *               3 NOS_BAD_BASE      the base is not 2 to 36, with any number of digits; the number's start
  *               2 NOS_NO_DIGIT      where a digit was wanted
@@ -242,7 +243,7 @@ struct nos_number nos_read_unsigned(const uint8_t *text, size_t length, uint32_t
 
 enum nos_kind { NOS_STRING = 0, NOS_INTEGER = 1, NOS_MACRO = 2 };
 
-/* Whether a table of variables is good. A table is records one behind the other, each
+/* Whether a table of variables is good. A table is records one after the other, each
  *
  *   86, 82, kind, name length (1 to 32), value length (0 to 255), name, value
  *
@@ -254,7 +255,7 @@ enum nos_kind { NOS_STRING = 0, NOS_INTEGER = 1, NOS_MACRO = 2 };
  *   refused    records 0. The first of these that holds:
  *              18 NOS_OVER_LENGTH   the table is longer than 65,535 bytes; place 0
  *              13 NOS_BAD_TABLE     where the first bad record starts. Of two equal names the later one is bad, and so is a record
- *                                   that the table's end cuts off, and anything behind 256 records
+ *                                   that the table's end cuts off, and anything after 256 records
  */
 struct nos_checked nos_check_table(const uint8_t *table, size_t length);
 
@@ -298,24 +299,24 @@ struct nos_variable nos_look_up(const uint8_t *name, size_t name_length, const u
                                 const uint8_t *house, size_t house_length);
 
 /* The flags of a text. Other bits count for nothing. */
-#define NOS_SPACE_ENDS (1u << 29)   /* a space behind the leading ones and outside quotes ends the text */
+#define NOS_SPACE_ENDS (1u << 29)   /* a space after the leading ones and outside quotes ends the text */
 #define NOS_BAR_PLAIN (1u << 30)    /* "|" is an ordinary byte: no codes */
 #define NOS_QUOTE_PLAIN (1u << 31)  /* a quote opens nothing: it is an ordinary byte */
 
 /* Translates a text into bytes at the start of out, with no terminator. An ordinary byte gives itself.
  *
- * The text ends at the first byte 0, 10 or 13, in quotes and in references too, or at its length. Bytes behind that end are not
+ * The text ends at the first byte 0, 10 or 13, in quotes and in references too, or at its length. Bytes after that end are not
  * read, but count for the length. Leading spaces (byte 32 alone) are skipped under every flag.
  *
- * Quotes: one standing first behind those spaces opens a quoted string. In it "" gives one quote, a single one closes it, no space
- * ends it, and codes and references are read. Behind the closing quote spaces are skipped and the text must end; with
+ * Quotes: one standing first after those spaces opens a quoted string. In it "" gives one quote, a single one closes it, no space
+ * ends it, and codes and references are read. After the closing quote spaces are skipped and the text must end; with
  * NOS_SPACE_ENDS a space or the end must stand directly there, and that is the text's end. In any other text quotes are ordinary.
  *
  * Codes:
- *   |@              0            |[ or |{     27           |^ or |~     30           || |< |"   the byte behind the bar
+ *   |@              0            |[ or |{     27           |^ or |~     30           || |< |"   the byte after the bar
  *   |A to |Z        1 to 26      |\           28           |_ or |'     31           |!         sets the top bit of the ordinary
- *   |a to |z        1 to 26      |] or |}     29           |?           127                    byte or the other code behind it
- * Bad: any other byte behind "|"; the end there; and behind "|!" the end (with NOS_SPACE_ENDS a space outside quotes too), a bare
+ *   |a to |z        1 to 26      |] or |}     29           |?           127                    byte or the other code after it
+ * Bad: any other byte after "|"; the end there; and after "|!" the end (with NOS_SPACE_ENDS a space outside quotes too), a bare
  * "<", a quote under any flags, or another "|!".
  *
  * A reference is "<", one or more bytes that a name may have, and ">". What stands between is read as by nos_read_unsigned with
@@ -328,19 +329,19 @@ struct nos_variable nos_look_up(const uint8_t *name, size_t name_length, const u
  *   allowance   how many look-ups; over 1,024 counts as 1,024
  *
  * The need is the number of bytes given. It is at most 323,583: a name takes 3 bytes of text or more, and adds 255 or fewer.
- *   accepted   place: the text's end, behind all spaces that were skipped, or that of the space that ended it. need, and free: room -
- *              need. Bytes of out behind the need stay as they were
+ *   accepted   place: the text's end, after all spaces that were skipped, or that of the space that ended it. need, and free: room -
+ *              need. Bytes of out after the need stay as they were
  *   refused    every byte of out stays as it was; need 0 except for 1; free: the room. The first of these that holds:
  *              18 NOS_OVER_LENGTH       of the text, of the farm's table, of the house's: as for struct nos_tables
  *              13 NOS_BAD_TABLE         of the farm's table, of the house's: likewise
  *                 then the first of these that the reading meets from the left:
- *               9 NOS_BAD_REFERENCE     no name byte behind the "<", or no ">" behind those; the "<"
+ *               9 NOS_BAD_REFERENCE     no name byte after the "<", or no ">" after those; the "<"
  *               4 NOS_TOO_BIG           its number is over 4,294,967,295; the "<"
  *              10 NOS_UNKNOWN_NAME      no record of either table has an equal name; the "<"
  *              11 NOS_TOO_DEEP          a macro named at level 16, your text being level 0; the "<"
  *              12 NOS_ALLOWANCE_SPENT   no look-up is left for the name; the "<"
  *               7 NOS_BAD_CODE          the "|", of "|!|" the first
- *               8 NOS_BAD_STRING        the text ends in the quotes: the open quote; it goes on behind them: the byte there
+ *               8 NOS_BAD_STRING        the text ends in the quotes: the open quote; it goes on after them: the byte there
  *                 and last:
  *               1 NOS_NO_ROOM           the room is less than the need, which is in the answer; place 0
  *              At one reference 9, 4, 10, 11, 12 come in this order. A refusal inside a macro has its own number, and the place of
@@ -378,7 +379,7 @@ struct nos_answer nos_translate(const uint8_t *text, size_t length, const uint8_
  *
  * A name must be an integer variable, and takes one look-up out of the allowance; over 1,024 counts as 1,024.
  *
- *   accepted   value, and place: the text's end, behind all spaces
+ *   accepted   value, and place: the text's end, after all spaces
  *   refused    value 0. The first of these that holds:
  *              18 NOS_OVER_LENGTH       of the text, of the farm's table, of the house's: as for struct nos_tables
  *              13 NOS_BAD_TABLE         of the farm's table, of the house's: likewise
@@ -388,7 +389,7 @@ struct nos_answer nos_translate(const uint8_t *text, size_t length, const uint8_
  *               2 NOS_NO_DIGIT          as by nos_read_unsigned, and so 3 and 4
  *               3 NOS_BAD_BASE
  *               4 NOS_TOO_BIG
- *                 then the first of these that the evaluation meets, operands from the left and each operator behind its operands:
+ *                 then the first of these that the evaluation meets, operands from the left and each operator after its operands:
  *              10 NOS_UNKNOWN_NAME      no record of either table has an equal name; the name
  *              17 NOS_NOT_AN_INTEGER    a string or a macro, also where it hides an integer of the house; the name
  *              12 NOS_ALLOWANCE_SPENT   no look-up is left for the name; the name

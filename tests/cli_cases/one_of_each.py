@@ -1,0 +1,17 @@
+"""One accepted and one refused run of every command: few enough to look for leaks in, which takes some machines seconds for each."""
+
+from .commands import ALL
+from .refusals import every_refusal
+from .trial import accepted, refused
+
+
+def cases():
+    for name, synopsis in ALL.items():
+        yield accepted([*name, *synopsis.arguments], synopsis.out, files=synopsis.files, given=synopsis.given,
+                       makes=synopsis.makes)
+    first = {}
+    for one in every_refusal():
+        if one.number != 18:  # what is over 65,535 bytes takes another way
+            first.setdefault(one.command, one)
+    for one in first.values():
+        yield refused(one.args, one.says, files=one.files, given=one.given)
