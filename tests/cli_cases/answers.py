@@ -4,6 +4,7 @@ import re
 
 from . import header, variables
 from .commands import COMMANDS, TABLE_COMMANDS
+from .header import TIME
 from .messages import SAY_LINES, after, no_room, refusal
 from .trial import Case, accepted, refused
 from .variables import FARM, HOUSE, integer, macro, string, table
@@ -12,7 +13,6 @@ VALUE = 1048576
 PAGE = {"farm": table(*FARM), "house": table(*HOUSE)}
 LETTERS = {"farm": table(string(b"a", b"x")), "house": table(string(b"a", b"y"), macro(b"m", b"<A>|"))}
 SMALL = "translate --farm farm --table house --allowance 2 --room 2"
-TIME = "487E2A9141"  # 13:25:54.00 on Tuesday 28 March 1989
 
 
 def grouped(digits):

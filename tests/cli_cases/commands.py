@@ -2,6 +2,7 @@
 
 from typing import NamedTuple
 
+from .header import TIME
 from .variables import FARM, HOUSE, string, table, text
 
 NOT_NUMBERS = ("", "x", "12x", "-", "4294967296", " 5", "5 ", "+5", "0x10", "&", "&G", "37_1", "2_", "2_2", "1,024",
@@ -40,7 +41,7 @@ COMMANDS = {
     "eval": Synopsis(("6*7",), 1, 1, b"42\n", ("--allowance",), (*TWO, "-o"), ("--strict",), files={"t": b""}),
     "convert": Synopsis(("hex2", "255"), 2, 2, b"FF\n", ("--room",), ("-o",)),
     "read": Synopsis(("21",), 1, 1, b"21\n", ("--limit",), ("-o",), ("--whole", "--strict")),
-    "date": Synopsis(("%CE%YR", "487E2A9141"), 2, 2, b"1989\n", ("--room", "--at"), ("-o", "--from"), files={"t": bytes(5)}),
+    "date": Synopsis(("%CE%YR", TIME), 2, 2, b"1989\n", ("--room", "--at"), ("-o", "--from"), files={"t": bytes(5)}),
 }
 
 TABLE_COMMANDS = {

@@ -23,8 +23,9 @@ SPACES = [
 def of_texts():
     for given, place, reported in ENDS:
         count = len(given) - place
-        yield accepted("translate", given[:place], [after(count, place), SAY_LINES] if reported else [], given=given)
-        yield accepted("translate text", given[:place], [after(count, place), SAY_LINES] if reported else [], files={"text": given})
+        says = [after(count, place), SAY_LINES] if reported else []
+        yield accepted("translate", given[:place], says, given=given)
+        yield accepted("translate text", given[:place], says, files={"text": given})
         if reported:
             yield refused("translate --strict", [by_strict(count, place), NOTHING_WRITTEN], given=given)
         else:
@@ -82,8 +83,8 @@ def of_refused_texts():
 def of_long_lines():
     """Of a long line the part around the place is shown."""
     for length, place in ((72, 0), (72, 40), (72, 71), (73, 0), (73, 36), (73, 72), (74, 1), (100, 0), (100, 10), (100, 50),
-                          (100, 90), (100, 99), (1000, 35), (1000, 36), (1000, 37), (1000, 500), (1000, 930), (1000, 964), (1000, 999),
-                          (60000, 30000), (65535, 65534)):
+                          (100, 90), (100, 99), (1000, 35), (1000, 36), (1000, 37), (1000, 500), (1000, 930), (1000, 964),
+                          (1000, 999), (60000, 30000), (65535, 65534)):
         digits = (b"0123456789abcdefghijklmnopqrstuvwxyzABCDEFGHIJKLMNOPQRSTUVWXYZ+-" * (length // 64 + 1))[:length]
         given = digits[:place] + b"<" + digits[place + 1:]
         yield refused("translate", refusal(9, place, "the text", given), given=given)

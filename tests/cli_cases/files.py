@@ -3,14 +3,11 @@
 import os
 import time
 
-from . import header
+from .header import LONG, TIME
 from .messages import refusal
 from .trial import Case, accepted, cannot, title, wrong_usage
-from .variables import FARM, string, table, text
+from .variables import FARM, ONE, string, table, text
 
-LONG = b"a" * (header.LONGEST + 1)
-TIME = bytes.fromhex("487E2A9141")
-ONE = table(string(b"a", b"x"))
 
 # every way in which a file is read: a command that reads one of the name %s, its bytes, and the answer
 READ = [
@@ -20,8 +17,8 @@ READ = [
     ("translate text --farm=%s", ONE, b"x"),
     ("eval --table %s 1", ONE, b"1\n"),
     ("eval 1 --farm %s", ONE, b"1\n"),
-    ("date %%CE%%YR --from %s", TIME, b"1989\n"),
-    ("date %%CE%%YR --from %s --at 0", TIME, b"1989\n"),
+    ("date %%CE%%YR --from %s", bytes.fromhex(TIME), b"1989\n"),
+    ("date %%CE%%YR --from %s --at 0", bytes.fromhex(TIME), b"1989\n"),
     ("table check %s", table(*FARM), b"good: 2 variables, %d bytes\n" % len(table(*FARM))),
     ("table show %s", table(*FARM), text(*FARM)),
 ]
@@ -59,11 +56,13 @@ def of_files_that_are_not():
 def of_what_comes_first():
     """Usage, then files, then the library."""
     for args in ("translate --room x missing", "translate missing missing", "translate --table missing --nonsense",
-                 "eval --table missing", "date --from missing", "date %DY --from missing --at x", "table check missing x", "table make new missing x",
+                 "eval --table missing", "date --from missing", "date %DY --from missing --at x", "table check missing x",
+                 "table make new missing x",
                  "table set missing a strong x", "table set missing a integer x", r"table set missing a string '\q'",
                  r"table set missing '\q' string a", r"table unset missing '\q'"):
         yield wrong_usage(args)
-    for args in ("translate --table missing --room 0", "translate --farm missing --strict", "translate --table long --farm missing"):
+    for args in ("translate --table missing --room 0", "translate --farm missing --strict",
+                 "translate --table long --farm missing"):
         yield cannot(args, "missing", files={"long": LONG}, given=LONG)
     for args in ("eval --table missing '('", "eval --farm long --table missing 1/0", "date %mn --from missing",
                  "date --room 0 %DY --from missing", "table set missing '' string x", "table unset missing ''"):
@@ -82,7 +81,7 @@ def of_closed_input():
 
 
 def of_standard_input():
-    """`-` for whatever is read, and a pipe by its name among the files: it can not be sought in, and has no length."""
+    """`-` for whatever is read, and a pipe by its name among the files: it cannot be sought in, and has no length."""
     for name in ("-", "/dev/stdin"):
         for args, data, out in READ:
             yield accepted(_named(args, name), out, files=BESIDE, given=data)
@@ -111,5 +110,6 @@ def of_pieces():
 
 
 def cases():
-    for some in (of_files_that_are_there, of_files_that_are_not, of_what_comes_first, of_closed_input, of_standard_input, of_pieces):
+    for some in (of_files_that_are_there, of_files_that_are_not, of_what_comes_first, of_closed_input, of_standard_input,
+                 of_pieces):
         yield from some()

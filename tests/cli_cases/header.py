@@ -29,3 +29,5 @@ WORDS = _words()
 REFUSES_BY = _refuses_by()
 LONGEST = int(re.search(r"#define NOS_LONGEST (\d+)u", TEXT)[1])
 MOST_LOOK_UPS = 1024
+LONG = b"a" * (LONGEST + 1)  # whatever is so long is refused by 18
+TIME = "487E2A9141"          # that of the header's examples: 13:25:54.00 on Tuesday 28 March 1989

@@ -1,4 +1,4 @@
-"""`nos translate --lines`: each line a text of its own, its end kept as it stood, all refused lines reported, nothing written then."""
+"""`nos translate --lines`: each line a text of its own, its end kept as it stood; all refused lines are reported."""
 
 import random
 import re
@@ -11,7 +11,8 @@ from .variables import macro, string, table
 TABLE = {"t": table(string(b"a", b"x"), macro(b"m", b"<a><a>"), string(b"ends", b"1\r\n2\n"))}
 # pieces of a line, and what each gives
 PIECES = [(b"Lower Ash", b"Lower Ash"), (b"<65>", b"A"), (b"|J", b"\n"), (b"|M", b"\r"), (b"|@", b"\0"), (b"<a>", b"x"),
-          (b"<m>", b"xx"), (b"||", b"|"), (b"\xff\x80", b"\xff\x80"), (b"<ends>", b"1\r\n2\n"), (b"a b", b"a b"), (b"", b""), (b'a"b', b'a"b')]
+          (b"<m>", b"xx"), (b"||", b"|"), (b"\xff\x80", b"\xff\x80"), (b"<ends>", b"1\r\n2\n"), (b"a b", b"a b"), (b"", b""),
+          (b'a"b', b'a"b')]
 LINE_ENDS = [b"\n", b"\r", b"\r\n"]
 
 
@@ -95,7 +96,8 @@ def of_refused_lines():
 def of_no_room():
     """The room is for each line."""
     yield refused("translate --lines --room 3", no_room(4, 3, ", in line 2"), given=b"abc\nabcd\nab\n")
-    yield refused("translate --lines --room 0", [*no_room(2, 0, ", in line 1")[:-1], *no_room(1, 0, ", in line 3")], given=b"ab\r\n\n.")
+    two_lines = [*no_room(2, 0, ", in line 1")[:-1], *no_room(1, 0, ", in line 3")]
+    yield refused("translate --lines --room 0", two_lines, given=b"ab\r\n\n.")
 
 
 def of_bytes_after():
@@ -119,5 +121,6 @@ def of_tables():
 
 
 def cases():
-    for some in (of_ends, of_texts, of_ends_across_reads, of_random_lines, of_refused_lines, of_no_room, of_bytes_after, of_tables):
+    for some in (of_ends, of_texts, of_ends_across_reads, of_random_lines, of_refused_lines, of_no_room, of_bytes_after,
+                 of_tables):
         yield from some()

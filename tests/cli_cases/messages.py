@@ -64,7 +64,6 @@ class Something(NamedTuple):
         return None if self.word in "\n".join(lines) else f"{self.word} is not in {lines}"
 
 
-
 def refusal(number, place, of, shown=None, advice=ADVICE):
     """The lines of a refusal. `shown` is the line that the place is in, where that is to be shown."""
     lines = [f"refused {number}, {WORDS[number]}, at byte {place} of {of}"]
@@ -86,7 +85,8 @@ def good(count, size):
 def no_room(need, room, of=""):
     """The lines of a refusal by 1."""
     needed = counted(need, "byte is", "bytes are")
-    return [f"refused 1, {WORDS[1]}: {needed} needed, and there was room for {room}{of}", f"ask again with --room {need}", NOTHING_WRITTEN]
+    first = f"refused 1, {WORDS[1]}: {needed} needed, and there was room for {room}{of}"
+    return [first, f"ask again with --room {need}", NOTHING_WRITTEN]
 
 
 def after(count, place, of="the end of the text", verb="translated"):

@@ -7,9 +7,10 @@ import tempfile
 
 from . import header
 from .commands import ANSWERING, WITH_OUTPUT
+from .header import TIME
 from .messages import SAY_LINES, Something, after, refusal
 from .trial import Case, accepted, cannot, refused, title
-from .variables import filled, string, table, text
+from .variables import ONE, filled, string, table, text
 
 WIDE = b"w" * header.LONGEST
 OLD = {"old": b"what was there"}
@@ -27,7 +28,7 @@ def ways_to_answer():
 
 
 def into(args, opened, files=None, given=b""):
-    """A case: standard output is what `opened` gives, and can not be written."""
+    """A case: standard output is what `opened` gives, and cannot be written."""
     def work(trial):
         trial.write(files or {})
         before = trial.found()
@@ -102,8 +103,8 @@ def of_files():
 def of_names():
     """Where a file can be, and what else can have its name."""
     yield accepted("translate -o text text", makes={"text": b"A"}, files={"text": b"<65>"})
-    yield accepted("table show -o t t", makes={"t": b"a string x\n"}, files={"t": table(string(b"a", b"x"))})
-    yield accepted("table make t t", makes={"t": table(string(b"a", b"x"))}, files={"t": b"a string x\n"})
+    yield accepted("table show -o t t", makes={"t": b"a string x\n"}, files={"t": ONE})
+    yield accepted("table make t t", makes={"t": ONE}, files={"t": b"a string x\n"})
     yield accepted("translate -o ./new", makes={"new": b"Ash"}, given=b"Ash")
     yield accepted("translate -o 'a new one'", makes={"a new one": b"Ash"}, given=b"Ash")
     for length in (200, 255):
@@ -160,7 +161,7 @@ def to_other_file_system(trial):
 def to_links(trial):
     """A link stays, and the file that it points to gets the answer: through other links too, and where there was none."""
     os.mkdir(trial.path("in"))
-    trial.write({"in/old": b"old", "in/t": table(string(b"a", b"x"))})
+    trial.write({"in/old": b"old", "in/t": ONE})
     for name, target in (("link", "in/old"), ("in/link", "old"), ("second", "link"), ("in/up", "../second"), ("nothing", "in/new"),
                          ("table", "in/t"), ("folder", "in")):
         os.symlink(target, trial.path(name))
@@ -181,10 +182,10 @@ def to_circle(trial):
 
 
 def of_too_little_space():
-    """Where a file can not be written whole it is not made, and an old one stays."""
+    """Where a file cannot be written whole it is not made, and an old one stays."""
     for name in ("new", "old"):
         yield cannot(f"translate -o {name}", name, given=WIDE, files=OLD, shell=SMALL_FILES)
-        yield cannot(["date", "-o", name, WIDE, "487E2A9141"], name, files=OLD, shell=SMALL_FILES)
+        yield cannot(["date", "-o", name, WIDE, TIME], name, files=OLD, shell=SMALL_FILES)
         yield cannot(f"translate --lines -o {name}", name, given=b"a line\n" * 20000, files=OLD, shell=SMALL_FILES)
         yield cannot(f"table make {name}", name, given=text(*filled(60000)), files=OLD, shell=SMALL_FILES)
         yield cannot(f"table show t -o {name}", name, files={**OLD, "t": table(*filled(60000))}, shell=SMALL_FILES)
@@ -196,7 +197,7 @@ def of_too_little_space():
 def in_closed_folder(args, name, given=b""):
     """A case: nothing can be made in the folder, though the file that is there could be written."""
     def work(trial):
-        trial.write({"old": table(string(b"a", b"x"))})
+        trial.write({"old": ONE})
         os.chmod(trial.path("old"), 0o666)
         os.chmod(trial.folder, 0o555)
         trial.holds(args, 3, says=[Something(name)], given=given, nobody=True)
@@ -206,7 +207,7 @@ def in_closed_folder(args, name, given=b""):
 def onto_closed_file(args, name, given=b""):
     """A case: the file may not be written, though it is the user's own and the folder would allow a new one."""
     def work(trial):
-        trial.write({name: table(string(b"a", b"x"))})
+        trial.write({name: ONE})
         trial.give_to_nobody(name)
         os.chmod(trial.path(name), 0o444)
         trial.holds(args, 3, says=[Something(name)], given=given, nobody=True)

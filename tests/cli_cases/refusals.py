@@ -1,17 +1,16 @@
-"""Every refusal that a command can meet, in one list. Each is tried with its answer to standard output, to a new file and in place of
-an old one, those of a text with --lines too; and the list has every number that the header has for the command's function."""
+"""Every refusal that a command can meet, in one list. Each is tried with its answer to standard output, to a new file and in place
+of an old one, those of a text with --lines too; and the list has every number that the header has for the command's function."""
 
 import re
 from typing import NamedTuple
 
 from . import header
 from .commands import ALL, WITH_OUTPUT
+from .header import LONG, TIME
 from .messages import ADVICE, IN_A_MACRO, NOT_IN_A_MACRO, NOTHING_WRITTEN, Shown, by_strict, no_room, refusal
 from .trial import Case, refused, words
 from .variables import FARM, HOUSE, MOST_RECORDS, filled, integer, macro, string, table, text
 
-LONG = b"a" * (header.LONGEST + 1)
-TIME = "487E2A9141"
 MEND_NAME = "the name is in neither table: mend it, or set it with `nos table set`"
 
 UNKNOWN_CALL = ["refused 14, Unknown call", ADVICE, NOTHING_WRITTEN]
@@ -184,7 +183,8 @@ def of_unset():
 def of_make():
     def made(number, place, given, line=4):
         advice = re.compile(rf".*\bline {line}\b.*") if number == 13 else ADVICE
-        return Refusal("table make", number, words("table make new"), refusal(number, place, "the table new", advice=advice), {}, given)
+        says = refusal(number, place, "the table new", advice=advice)
+        return Refusal("table make", number, words("table make new"), says, {}, given)
     lines = text(*SEVERAL)
     place = len(table(*SEVERAL))
     yield made(13, place, lines + b"ONE integer 5\n")

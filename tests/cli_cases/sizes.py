@@ -1,6 +1,7 @@
 """Both sides of every limit: 65,535 bytes of whatever is read; the largest answer; 1,024 look-ups; 256 records."""
 
 from . import header
+from .header import TIME
 from .messages import no_room, refusal
 from .refusals import MANY
 from .trial import accepted, refused
@@ -8,8 +9,7 @@ from .variables import LONGEST_VALUE, MOST_RECORDS, filled, integer, string, tab
 
 MOST = header.LONGEST
 LOOK_UPS = header.MOST_LOOK_UPS
-TIME = "487E2A9141"
-ONE = {"t": table(string(b"a", b"v" * LONGEST_VALUE), integer(b"n", 1))}
+VALUES = {"t": table(string(b"a", b"v" * LONGEST_VALUE), integer(b"n", 1))}
 
 
 def of_texts():
@@ -39,10 +39,10 @@ def of_largest_answer():
     out = b"v" * LONGEST_VALUE * LOOK_UPS + b"." * (MOST - 3 * LOOK_UPS)
     need = 323583
     assert len(out) == need
-    yield accepted("translate --table t", out, given=given, files=ONE)
-    yield accepted(f"translate --table t --room {need} -o out", makes={"out": out}, given=given, files=ONE)
-    yield refused(f"translate --table t --room {need - 1}", no_room(need, need - 1), given=given, files=ONE)
-    yield accepted("translate --table t --lines", out + b"\n" + out, given=given + b"\n" + given, files=ONE)
+    yield accepted("translate --table t", out, given=given, files=VALUES)
+    yield accepted(f"translate --table t --room {need} -o out", makes={"out": out}, given=given, files=VALUES)
+    yield refused(f"translate --table t --room {need - 1}", no_room(need, need - 1), given=given, files=VALUES)
+    yield accepted("translate --table t --lines", out + b"\n" + out, given=given + b"\n" + given, files=VALUES)
 
 
 def of_look_ups():
@@ -51,14 +51,14 @@ def of_look_ups():
         names, sums = b"<n>" * LOOK_UPS, b"n+" * (LOOK_UPS - 1) + b"n"
         more_names, more_sums = names + b"<n>", sums + b"+n"
         translate, evaluate = f"translate --table t {allowance}", f"eval --table t {allowance}".split()
-        yield accepted(translate, b"1" * LOOK_UPS, given=names, files=ONE)
-        yield refused(translate, refusal(12, len(names), "the text", more_names), given=more_names, files=ONE)
-        yield accepted([*evaluate, sums], f"{LOOK_UPS}\n", files=ONE)
-        yield refused([*evaluate, more_sums], refusal(12, len(more_sums) - 1, "the expression", more_sums), files=ONE)
+        yield accepted(translate, b"1" * LOOK_UPS, given=names, files=VALUES)
+        yield refused(translate, refusal(12, len(names), "the text", more_names), given=more_names, files=VALUES)
+        yield accepted([*evaluate, sums], f"{LOOK_UPS}\n", files=VALUES)
+        yield refused([*evaluate, more_sums], refusal(12, len(more_sums) - 1, "the expression", more_sums), files=VALUES)
     for allowance in range(3):
         yield refused(f"translate --table t --allowance {allowance}", refusal(12, 3 * allowance, "the text", b"<n><n><n>"),
-                      given=b"<n><n><n>", files=ONE)
-    yield accepted("translate --table t --allowance 3", b"111", given=b"<n><n><n>", files=ONE)
+                      given=b"<n><n><n>", files=VALUES)
+    yield accepted("translate --table t --allowance 3", b"111", given=b"<n><n><n>", files=VALUES)
 
 
 def of_tables():

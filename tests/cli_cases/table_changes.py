@@ -109,7 +109,7 @@ class Walk:
 
 
 def as_argument(written):
-    """The same with no zero byte, which an argument of a command can not have."""
+    """The same with no zero byte, which an argument of a command cannot have."""
     return written.replace(b"\0", b"\\x00")
 
 

@@ -93,8 +93,8 @@ def of_the_manual():
 
 def of_values():
     """Values and names that need some care."""
-    for value in (b" ", b"  ", b"   ", b" a", b"a ", b" a b ", b"\\", b"\\x41", b"#", b"\n", b"\r\n", b"\t", b"\x7f", b"\x80\xff", b"\0",
-                  b"string", b" \\ "):
+    for value in (b" ", b"  ", b"   ", b" a", b"a ", b" a b ", b"\\", b"\\x41", b"#", b"\n", b"\r\n", b"\t", b"\x7f", b"\x80\xff",
+                  b"\0", b"string", b" \\ "):
         yield both_ways(string(b"a", value), macro(b"b", value))
     for name in (b"#", b"##", b"a#", b"#a", b"\\", b"\\x41", b"a\\", b"string", b"!~", b"a" * 32, b"1", b"-5", b"|", b"'"):
         yield both_ways(string(name, b"x"), integer(b"other", 1))
@@ -126,8 +126,8 @@ def of_lines():
                          (b"a string x # y", b"x # y"), (b"a string \0\xff\t", b"\0\xff\t"), (b"a string string", b"string"),
                          (b"a string \\x0a\\x0D\\\\n", b"\n\r\\n")):
         yield accepted("table make t", makes={"t": table(string(b"a", value))}, given=given)
-    for given, number in ((b"5", 5), (b"-5", -5), (b"&ff", 255), (b"-&10", -16), (b"-2_101", -5), (b"4294967295", -1), (b"&FFFFFFFF", -1),
-                          (b"2147483648", -2**31), (b"-2147483648", -2**31), (b"0", 0), (b"-0", 0)):
+    for given, number in ((b"5", 5), (b"-5", -5), (b"&ff", 255), (b"-&10", -16), (b"-2_101", -5), (b"4294967295", -1),
+                          (b"&FFFFFFFF", -1), (b"2147483648", -2**31), (b"-2147483648", -2**31), (b"0", 0), (b"-0", 0)):
         yield accepted("table make t", makes={"t": table(integer(b"a", number))}, given=b"a integer " + given)
     yield accepted("table make t", makes={"t": table(string(b"#a", b"x"), string(b"A\\b", b""))},
                    given=b"\\x23a string x\n\\x41\\\\\\x62 string\n")
@@ -136,9 +136,9 @@ def of_lines():
 MISTAKES = [
     b"b", b"b ", b"b x", b"b  string x", b"b String x", b"b strings", b"b str x", b"b string\tx", b"b\tstring x", b"b string\\x20x",
     b"b string \\", b"b string \\q", b"b macro \\x", b"b macro \\x0", b"b string \\x0g", b"b string \\xg0", b"b string \\n",
-    b"b string \\X41", b"\\q string x", b"b\\ string x", b"b integer", b"b integer ", b"b integer x", b"b integer 5x", b"b integer  5",
-    b"b integer 5 ", b"b integer +5", b"b integer --5", b"b integer - 5", b"b integer 4294967296", b"b integer 0x10", b"b integer &",
-    b"b integer 37_1", b"b integer \\x35", *(b"b integer " + word.encode() for word in TOO_LOW),
+    b"b string \\X41", b"\\q string x", b"b\\ string x", b"b integer", b"b integer ", b"b integer x", b"b integer 5x",
+    b"b integer  5", b"b integer 5 ", b"b integer +5", b"b integer --5", b"b integer - 5", b"b integer 4294967296", b"b integer 0x10",
+    b"b integer &", b"b integer 37_1", b"b integer \\x35", *(b"b integer " + word.encode() for word in TOO_LOW),
 ]
 
 

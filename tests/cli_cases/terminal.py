@@ -5,10 +5,9 @@ import pty
 
 from .messages import Something
 from .trial import Case, title
-from .variables import string, table
+from .variables import ONE
 
 CTRL_D = b"\x04"
-ONE = table(string(b"a", b"x"))
 
 
 def typed(args, keys, out=b"", makes=None):

@@ -3,7 +3,7 @@
 from .commands import ALL, NOT_NUMBERS, TOO_LOW
 from .messages import no_room, refusal
 from .trial import accepted, refused, wrong_usage
-from .variables import string, table
+from .variables import ONE
 
 EVERY_OPTION = sorted({option for synopsis in ALL.values() for option in (*synopsis.valued, *synopsis.flags)})
 A_VALUE = {"--table": "t", "--farm": "t", "--from": "t", "-o": "out"}
@@ -89,9 +89,10 @@ def of_numbers():
 def of_values_of_options():
     """What looks like an option is no value of another; and `-` is no file to write, nor one to read twice."""
     files = {"--lines": b"", "--": b"", "t": b""}
-    for args in ("translate -o --lines", "translate --table --lines", "translate --table -- t", "eval 1 -o --", "date %DY --from --lines",
-                 "translate -o -", "convert hex1 5 -o -", "table show t -o -", "table make -", "table set - a string x", "table unset - a",
-                 "translate --table - -", "translate --table -", "translate --farm - --table - t", "eval --farm=- --table=- 1"):
+    for args in ("translate -o --lines", "translate --table --lines", "translate --table -- t", "eval 1 -o --",
+                 "date %DY --from --lines", "translate -o -", "convert hex1 5 -o -", "table show t -o -", "table make -",
+                 "table set - a string x", "table unset - a", "translate --table - -", "translate --table -",
+                 "translate --farm - --table - t", "eval --farm=- --table=- 1"):
         yield wrong_usage(args, files=files)
 
 
@@ -105,7 +106,7 @@ def of_dates():
 
 def of_table_words():
     """A kind that is none, and a name or a value of `set` and `unset` that cannot be read."""
-    files = {"t": table(string(b"a", b"x"))}
+    files = {"t": ONE}
     for kind in ("", "String", "strings", "str", "number", "0"):
         yield wrong_usage(["table", "set", "t", "b", kind, "5"], files=files)
     for word in ("\\", "\\q", "\\x", "\\x0", "\\xg0", "\\x0g", "ab\\", "\\n", "\\X41", "\\ "):
@@ -135,8 +136,8 @@ def of_right_forms():
             yield accepted([*name, *good, "-o", "out"], makes={"out": out}, **given_to(synopsis))
     yield accepted("translate -- --lines", b"Ash", files={"--lines": b"Ash"})
     yield accepted("translate -5", b"Ash", files={"-5": b"Ash"})
-    yield accepted("translate --table=t=1", b"x", given=b"<a>", files={"t=1": table(string(b"a", b"x"))})
-    yield accepted("translate --table=--room", b"x", given=b"<a>", files={"--room": table(string(b"a", b"x"))})
+    yield accepted("translate --table=t=1", b"x", given=b"<a>", files={"t=1": ONE})
+    yield accepted("translate --table=--room", b"x", given=b"<a>", files={"--room": ONE})
     yield accepted("translate -o -5", given=b"Ash", makes={"-5": b"Ash"})
     yield accepted("convert hex2 --room 3 -- 255", "FF\n")
     yield refused("read -5", refusal(2, 0, "the text", b"-5"))
@@ -165,7 +166,8 @@ def of_number_forms():
 
 
 def cases():
-    for some in (of_commands, of_counts, of_options, of_numbers, of_values_of_options, of_dates, of_table_words, of_right_forms, of_number_forms):
+    for some in (of_commands, of_counts, of_options, of_numbers, of_values_of_options, of_dates, of_table_words, of_right_forms,
+                 of_number_forms):
         yield from some()
 
 

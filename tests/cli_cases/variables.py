@@ -81,7 +81,7 @@ def place_of(variables, name):
 
 
 def filled(length):
-    """Variables, strings all, whose table has so many bytes; a length that one record alone can not have but two can, will do."""
+    """Variables, strings all, whose table has so many bytes; a length that one record alone cannot have but two can, will do."""
     variables = []
     most = HEAD + 4 + LONGEST_VALUE
     while length:
@@ -90,6 +90,8 @@ def filled(length):
         length -= size
     return variables
 
+
+ONE = table(string(b"a", b"x"))
 
 # the farm and the house of the project's first page: examples/c/first.c
 FARM = [string(b"Farm$Name", b"Lower Ash"), integer(b"Quantity", 1048576)]
