@@ -2,13 +2,11 @@
 use mathlib.Core.Bool.{true, false, _&&_, and-false, and-eq-true-iff, false≢true}
 use mathlib.Core.List.{List, [], _∷_, map}
 use mathlib.Core.Path.{_≡_, refl, ap, ap₂, sym, _∙_}
-use Prim.Native.Nat.{ℕ, suc, _+_, _<_, min}
+use Prim.Native.Nat.{ℕ, suc, _+_, _<_, _≤_}
 use native.Mathlib.Numerals.{add-one}
-use native.Mathlib.Decide.{ℕ-discrete}
-use native.Mathlib.Omega.{arith}
-use borrow.Author.Tests.{eq-eqb, ne-eqb, eqb-true}
+use borrow.Author.Tests.{eq-eqb, eqb-true}
 use lib.Dec.{eqb}
-use lib.ListN.{length, getD, drop, length-drop, drop-of-length-le}
+use lib.ListN.{length, getD, drop, drop-of-length-le}
 use lib.Seq.{drop-cons}
 use Rattle.paper.specs.Bytes.{nameByte}
 use Rattle.records.specs.Records.{allNameBytes, small, sameBytes, sameName}
@@ -33,17 +31,10 @@ other-length [] (y ∷ ys) n = refl
 other-length (x ∷ xs) [] n = refl
 other-length (x ∷ xs) (y ∷ ys) n = rw (other-length xs ys (λ e. n (ap suc e))) (and-false (eqb (small x) (small y)))
 
--- behind the bytes that both have, the names are equal when their lengths are
-pub same-end :
-    (a b : List ℕ) (at : ℕ) → at ≡ min (length a) (length b) →
-    sameName (drop at a) (drop at b) ≡ eqb (length a) (length b)
+-- after the last byte nothing is left that could differ
+pub same-end : (a b : List ℕ) (at : ℕ) → length a ≤ at → length b ≤ at → sameName (drop at a) (drop at b) ≡ true
 unfolding sameName
-same-end a b at e = go (ℕ-discrete (length a) (length b)) where
-  go : Dec (length a ≡ length b) → sameName (drop at a) (drop at b) ≡ eqb (length a) (length b)
-  go (yes q) = rw (drop-of-length-le a {i = at} (omega arith), drop-of-length-le b {i = at} (omega arith), eq-eqb (length a) (length b) q)
-  go (no n) =
-      rw (ne-eqb (length a) (length b) n)
-      (other-length (drop at a) (drop at b) (λ q. omega (arith, length-drop at a, length-drop at b)))
+same-end a b at h k = rw (drop-of-length-le a {i = at} h, drop-of-length-le b {i = at} k)
 
 same-bytes : (a : List ℕ) → sameBytes a a ≡ true
 same-bytes [] = refl

@@ -1,7 +1,6 @@
 // The bytes of a name: which ones are allowed, and when two names are equal.
 ghost use mathlib.Core.Path.{_≡_};
-ghost use mathlib.Core.Bool.{cond};
-ghost use Prim.Native.Nat.{_<_, _≤_, min};
+ghost use Prim.Native.Nat.{_<_};
 ghost use lib.Dec.{eqb};
 ghost use Rattle.records.specs.inner.Keys.{keyOf};
 ghost use Rattle.records.specs.Records.{allNameBytes, small, sameName};
@@ -47,34 +46,31 @@ pub fn key_of(name: &[u8]) -> u32
     key
 }
 
-// 1 where two bytes differ in more than the case of A to Z, else 0.
-fn unlike(x: u8, y: u8) -> usize
-    ensures { λ r. ⌜ (r ≡ cond (eqb (small x) (small y)) 0 1) × (r ≤ 1) ⌝ }
+// Whether two bytes differ in nothing but the case of A to Z. Most bytes of equal names are equal as they are: that is tested first.
+fn is_alike(x: u8, y: u8) -> bool
+    ensures { λ r. ⌜ r ≡ eqb (small x) (small y) ⌝ }
 {
-    if small(x) == small(y) { 0 } else { 1 }
+    if x == y {
+        return true;
+    }
+    small(x) == small(y)
 }
 
-fn shorter(a: usize, b: usize) -> usize
-    ensures { λ r. ⌜ r ≡ min a b ⌝ }
-{
-    if a < b { a } else { b }
-}
-
-// The only place where names are compared: one pass over the bytes that both have. Those that differ are counted, so that the
-// pass has no branch.
+// The only place where names are compared: their lengths first, then their bytes, up to the first two that differ.
 pub fn same_name(a: &[u8], b: &[u8]) -> bool
     ensures { λ r. ⌜ r ≡ sameName (now (a .entry)) (now (b .entry)) ⌝ }
 {
-    let both = shorter(a.len(), b.len());
-    let mut differing = 0;
-    let mut at = 0;
-    while at < both {
-        differing += unlike(a[at], b[at]);
-        at += 1;
+    if a.len() != b.len() {
+        return false;
     }
-    if differing == 0 {
-        a.len() == b.len()
-    } else {
-        false
+    let mut left = a.len();
+    while 0 < left {
+        let at = a.len() - left;
+        if is_alike(a[at], b[at]) {
+            left -= 1;
+        } else {
+            return false;
+        }
     }
+    true
 }

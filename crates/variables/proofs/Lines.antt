@@ -1,14 +1,15 @@
 -- The lines of keys: what a name means by the lines of a table's records is what it means among the records.
 use mathlib.Core.Bool.{Bool, true, false, cond, _&&_, and-false}
 use mathlib.Core.List.{List, [], _∷_, _++_, append-nil}
-use mathlib.Core.Path.{_≡_, refl, ap, sym, _∙_}
-use Prim.Native.Nat.{ℕ, zero, suc, _+_, _*_, _/_, _%_, _<_, _≤_}
+use mathlib.Core.Path.{_≡_, refl, ap, sym, subst, _∙_}
+use Prim.Native.Nat.{ℕ, zero, suc, _+_, _-_, _*_, _/_, _%_, _<_, _≤_}
 use native.Mathlib.Numerals.{add-one}
 use native.Mathlib.Omega.{arith}
-use borrow.Author.Tests.{eq-eqb, lt-ltb, le-ltb}
+use borrow.Author.Count.{below-more}
+use borrow.Author.Tests.{eq-eqb, ne-eqb, lt-ltb, le-ltb}
 use lib.Dec.{ltb, eqb}
-use lib.ListN.{length, getD, drop, drop-of-length-le}
-use lib.Seq.{drop-cons}
+use lib.ListN.{length, getD, take, drop, drop-of-length-le}
+use lib.Seq.{drop-cons, take-all}
 use Rattle.paper.specs.declared.Holder.{Holder}
 use Rattle.paper.specs.declared.Holder.the-variants.{Farm, House}
 use Rattle.paper.proofs.Choice.{either}
@@ -17,7 +18,7 @@ use Rattle.records.specs.inner.Keys.{keyOf}
 use Rattle.records.proofs.KeyLaws.{key-small, same-key}
 use Rattle.variables.specs.Tables.{most, entries, Sought, present, sought, before}
 use Rattle.variables.specs.Holdings.{heldBy, Holding, nowhere, held, heldIn, orElse}
-use Rattle.variables.specs.inner.Keys.{markOf, lineOf, linesOf, LinesBefore, holderOf, recordBy, names, soughtBy}
+use Rattle.variables.specs.inner.Keys.{markOf, lineOf, linesOf, LinesBefore, holderOf, recordBy, names, soughtBy, Without}
 
 -- one line of any keys
 module _ (farm house keys name : List ℕ) (at : ℕ) where
@@ -38,6 +39,30 @@ module _ (farm house keys name : List ℕ) (at : ℕ) where
     unfolding soughtBy
     not-met e = rw (add-one, drop-cons keys at 0, e)
 
+-- lines that can be passed over
+pub without-none : (key : ℕ) (keys : List ℕ) (at : ℕ) → at ≡ 0 → Without key keys at
+without-none key keys at e = record { inside = omega arith; passes = λ k h. absurd (omega arith) }
+
+pub without-more :
+    (key : ℕ) (keys : List ℕ) (at next : ℕ) → next ≡ at + 1 → Without key keys at → at < length keys →
+    (getD keys at 0 % 32768 ≡ key → ⊥) → Without key keys next
+without-more key keys at next n w h other =
+    record { inside = omega arith; passes = λ k l. below-more (λ k. getD keys k 0 % 32768 ≡ key → ⊥) at (w .passes) other k (omega arith) }
+
+-- the part of some keys that is all of them, and a key that is a name's
+pub without-whole : {key own : ℕ} (keys : List ℕ) (stop : ℕ) → key ≡ own → Without key (take (length keys - 0) keys) stop → Without own keys stop
+without-whole {own = own} keys stop e w = subst (λ ks. Without own ks stop) (take-all (length keys - 0) keys (omega arith)) (rw e at w)
+
+-- the name is then sought among those after them
+module _ (farm house keys name : List ℕ) where
+  pub passed-over : (stop : ℕ) → Without (keyOf name) keys stop → soughtBy farm house keys name ≡ soughtBy farm house (drop stop keys) name
+  passed-over zero w = refl
+  passed-over (suc stop) w =
+      let before : Without (keyOf name) keys stop = record { inside = omega (arith, w .inside); passes = λ k h. w .passes k (omega arith) } in
+      let other : names farm house (getD keys stop 0) name ≡ false = rw (ne-eqb _ _ (w .passes stop (omega arith))) in
+      let on = not-met farm house keys name stop (omega (arith, w .inside)) other in
+      passed-over stop before ∙ on ∙ ap (λ n. soughtBy farm house (drop n keys) name) (add-one stop)
+
 -- a record's line has its place, its table and its key
 pub place-in : (holder : Holder) (place key : ℕ) → key < 32768 → (65536 * place + markOf holder + key) / 65536 ≡ place
 place-in Farm place key h = omega arith
@@ -46,6 +71,10 @@ place-in House place key h = omega arith
 pub key-in : (holder : Holder) (place key : ℕ) → key < 32768 → (65536 * place + markOf holder + key) % 32768 ≡ key
 key-in Farm place key h = omega arith
 key-in House place key h = omega arith
+
+pub key-of-line : (holder : Holder) (table : List ℕ) (place : ℕ) → lineOf holder (entryAt table place) % 32768 ≡ keyOf (nameAt table place)
+unfolding entryAt
+key-of-line holder table place = key-in holder place (keyOf (nameAt table place)) (key-small (nameAt table place))
 
 pub holder-in : (holder : Holder) (place key : ℕ) → key < 32768 → holderOf (65536 * place + markOf holder + key) ≡ holder
 holder-in Farm place key h = rw (le-ltb ((65536 * place + 32768 + key) % 65536) 32768 (omega arith))

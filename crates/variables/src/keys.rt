@@ -1,6 +1,6 @@
 // The keys of tables' records: a line for each, with the record's place, a mark of the table that holds it and a key of its name. A
-// look-up goes over the lines, and comes to a table only where the keys are equal: it does not follow the records' lengths, and compares
-// few names.
+// look-up goes over the lines, the first of them in blocks, and comes to a table only where the keys are equal: it does not follow the
+// records' lengths, and compares few names.
 ghost use mathlib.Core.Path.{_≡_};
 ghost use mathlib.Core.Bool.{_&&_};
 ghost use Prim.Native.Nat.{_/_, _%_, _≤_};
@@ -10,6 +10,7 @@ ghost use Rattle.variables.specs.inner.Keys.{markOf, holderOf, lineOf, r
 ghost use Rattle.records.specs.Records.{sameName, entryAt};
 ghost use Rattle.records.specs.Kinds.{variableAt};
 use crate::Match;
+use crate::blocks::blocks_without;
 use paper::Holder;
 use records::Variable;
 use records::names::key_of;
@@ -80,12 +81,13 @@ fn variable_of<'a>(farm: &'a [u8], house: &'a [u8], line: u32) -> Variable
 }
 
 // The first record with a name, among those of some keys of two tables. Any lines are gone through: a place that is not a record's is
-// read as if it were one.
+// read as if it were one. The blocks get the keys as a part, though it is all of them: handed on as they are, they would come here by
+// their place in memory, and every caller's frame would be larger, those of 17 levels of an expression too.
 pub fn find<'a>(farm: &'a [u8], house: &'a [u8], keys: &[u32], name: &[u8]) -> Match
     ensures { λ r. ⌜ r ≡ matchAs (now (farm .entry)) (now (house .entry)) (soughtBy (now (farm .entry)) (now (house .entry)) (now (keys .entry)) (now (name .entry))) ⌝ }
 {
     let key = key_of(name);
-    let mut at = 0;
+    let mut at = blocks_without(&keys[0..], key);
     while at < keys.len() {
         let line = keys[at];
         if is_named(farm, house, line, key, name) {

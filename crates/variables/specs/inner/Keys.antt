@@ -1,10 +1,10 @@
 -- The keys of tables' records: a line for each, of its place, a mark of the table that holds it and a key of its name.
-use mathlib.Core.Bool.{Bool, cond, _&&_}
+use mathlib.Core.Bool.{Bool, true, false, cond, _&&_}
 use mathlib.Core.List.{List, [], _∷_, _++_, map}
 use mathlib.Core.Path.{_≡_}
-use Prim.Native.Nat.{ℕ, _+_, _*_, _/_, _%_}
+use Prim.Native.Nat.{ℕ, _+_, _*_, _/_, _%_, _<_, _≤_}
 use lib.Dec.{eqb, ltb}
-use lib.ListN.{length, drop}
+use lib.ListN.{length, getD, drop}
 use Rattle.paper.specs.declared.Holder.{Holder}
 use Rattle.paper.specs.declared.Holder.the-variants.{Farm, House}
 use Rattle.records.specs.Records.{sameName, Entry, entryAt}
@@ -86,9 +86,18 @@ soughtBy farm house (line ∷ lines) name =
     let rest = soughtBy farm house lines name in
     cond (names farm house line name) (held (holderOf line) (recordBy farm house line)) rest
 
+-- none of the first lines, up to a place, has a key
+pub record Without (key : ℕ) (keys : List ℕ) (stop : ℕ) : Type 0 where
+  pub inside : stop ≤ length keys
+  pub passes : (k : ℕ) → k < stop → getD keys k 0 % 32768 ≡ key → ⊥
+
 abbrev pub matchAs : List ℕ → List ℕ → Holding → Match
 matchAs farm house nowhere = Missing
 matchAs farm house (held holder e) = Record (variableAt holder (heldBy holder farm house) e)
+
+abbrev pub noMatch : Match → Bool
+noMatch Missing = true
+noMatch (Record v) = false
 
 -- what such a look-up comes to in good tables
 abbrev pub inGoodTables : Match → Found

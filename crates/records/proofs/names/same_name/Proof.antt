@@ -1,83 +1,94 @@
--- `same_name` meets its contract. The loop's invariant: the names are equal if no byte differed so far and they are from there on.
--- The measure is what is left of the bytes that both have.
-use mathlib.Core.Bool.{Bool, true, false, cond, _&&_, and-true, and-false, and-assoc}
+-- `same_name` meets its contract. The loop's invariant: the names are as long as each other, and equal if they are from there on.
+-- The measure is what is left of them.
+use mathlib.Core.Bool.{Bool, true, false}
 use mathlib.Core.List.{List}
-use mathlib.Core.Path.{_≡_, refl, sym}
-use Prim.Native.Nat.{ℕ, _+_, _-_, _<_, _≤_, min}
+use mathlib.Core.Path.{_≡_, sym, _∙_}
+use Prim.Native.Nat.{ℕ, _+_, _-_, _<_, _≤_}
 use native.Mathlib.Omega.{arith}
 use borrow.Author.Needs.{needs}
-use borrow.Author.Tests.{eq-eqb, ne-eqb}
 use lib.Dec.{eqb}
 use lib.ListN.{length, getD, drop}
 use Rattle.records.specs.Records.{small, sameName}
-use Rattle.records.proofs.Equal.{same-more, same-end}
+use Rattle.records.proofs.Equal.{same-more, same-end, other-length}
 use Rattle.records.proofs.names.same_name.Statement.{statement}
 use Rattle.records.proofs.names.same_name.Tie as tie
 
+-- the names without the bytes that were compared
+abbrev rest : List ℕ → List ℕ → ℕ → Bool
+rest a b left = sameName (drop (length a - left) a) (drop (length a - left) b)
+
 abbrev Inv-loop : tie.InvT-loop
-Inv-loop a b both differing₀ at₀ differing at =
-    (both ≡ min (length a) (length b)) × (at ≤ both) × (differing ≤ at) × (sameName a b ≡ (eqb differing 0 && sameName (drop at a) (drop at b)))
+Inv-loop a b left₀ left = (length a ≡ length b) × (left ≤ length a) × (sameName a b ≡ rest a b left)
 
 abbrev μ-loop : tie.MeasureT-loop
-μ-loop a b both differing₀ at₀ differing at = both - at
+μ-loop a b left₀ left = left
 
-counted : (n : ℕ) (equal : Bool) → eqb (n + cond equal 0 1) 0 ≡ (eqb n 0 && equal)
-counted n true =
-    let z : n + 0 ≡ n = omega arith in
-    rw z (sym (and-true (eqb n 0)))
-counted n false = rw (ne-eqb (n + 1) 0 (λ e. omega arith)) (sym (and-false (eqb n 0)))
+at-first : (a b : List ℕ) → sameName a b ≡ rest a b (length a)
+at-first a b =
+    let none : length a - length a ≡ 0 = omega arith in
+    rw none
 
-module _ (a b : List ℕ) (at differing : ℕ) (so-far : sameName a b ≡ (eqb differing 0 && sameName (drop at a) (drop at b))) where
-  more :
-      {one : ℕ} → at < length a → at < length b → one ≡ cond (eqb (small (getD a at 0)) (small (getD b at 0))) 0 1 →
-      sameName a b ≡ (eqb (differing + one) 0 && sameName (drop (at + 1) a) (drop (at + 1) b))
-  more h k e = rw (so-far, same-more a b at h k, e, counted) (sym (and-assoc (eqb differing 0) _ _))
+-- where two bytes are compared
+module _ (a b : List ℕ) (left : ℕ) (long : length a ≡ length b) (so-far : sameName a b ≡ rest a b left) (some : 0 < left) (few : left ≤ length a) where
+  abbrev alike : Bool
+  alike = eqb (small (getD a (length a - left) 0)) (small (getD b (length a - left) 0))
 
-  ended : {known : Bool} → at ≡ min (length a) (length b) → eqb differing 0 ≡ known → (known && eqb (length a) (length b)) ≡ sameName a b
-  ended e k = rw (so-far, same-end a b at e, k)
+  more : alike ≡ true → sameName a b ≡ rest a b (left - 1)
+  more e =
+      let on : length a - (left - 1) ≡ length a - left + 1 = omega arith in
+      rw (so-far, same-more a b (length a - left) (omega arith) (omega arith), e, on)
+
+  stopped : alike ≡ false → sameName a b ≡ false
+  stopped e = rw (so-far, same-more a b (length a - left) (omega arith) (omega arith), e)
 
 -- at the loop's head
-module _ (c : tie.At-loop Inv-loop μ-loop) where
+module _ (h : tie.At-loop Inv-loop μ-loop) where
   abbrev a : List ℕ
-  a = c .before .before .before .before .args .a .now
+  a = h .before .before .before .before .args .a .now
 
   abbrev b : List ℕ
-  b = c .before .before .before .before .args .b .now
+  b = h .before .before .before .before .args .b .now
 
-  done :
-      {known : Bool} → c .before .shorter .result ≤ c .loop .at → eqb (c .loop .differing) 0 ≡ known →
-      (known && eqb (length a) (length b)) ≡ sameName a b
-  done h e = ended a b (c .loop .at) (c .loop .differing) (c .loop .inv .3) (omega arith) e
+returns : tie.Need-returns Inv-loop μ-loop
+returns c = sym (other-length _ _ (λ e. omega arith))
 
 loop-holds : tie.Need-loop-holds Inv-loop μ-loop
-loop-holds c = (c .shorter .ensures, omega arith, omega arith, refl)
+loop-holds c = (omega arith, omega arith, at-first _ _)
 
-shared-slice-read-unlike : tie.Need-shared-slice-read-unlike Inv-loop μ-loop
-shared-slice-read-unlike c = omega arith
+sub-at : tie.Need-sub-at Inv-loop μ-loop
+sub-at c = omega arith
 
-shared-slice-read-unlike-2 : tie.Need-shared-slice-read-unlike-2 Inv-loop μ-loop
-shared-slice-read-unlike-2 c = omega arith
+shared-slice-read-is-alike : tie.Need-shared-slice-read-is-alike Inv-loop μ-loop
+shared-slice-read-is-alike c = omega arith
 
-add-differing : tie.Need-add-differing Inv-loop μ-loop
-add-differing c = omega arith
+shared-slice-read-is-alike-2 : tie.Need-shared-slice-read-is-alike-2 Inv-loop μ-loop
+shared-slice-read-is-alike-2 c = omega arith
 
-add-at : tie.Need-add-at Inv-loop μ-loop
-add-at c = omega arith
+sub-left : tie.Need-sub-left Inv-loop μ-loop
+sub-left c = omega arith
 
 loop-less : tie.Need-loop-less Inv-loop μ-loop
 loop-less c = omega arith
 
 loop-again : tie.Need-loop-again Inv-loop μ-loop
 loop-again c =
-    let l = c .before .before .before .before in
-    let further = more (a l) (b l) (l .loop .at) (l .loop .differing) (l .loop .inv .3) (omega arith) (omega arith) (c .unlike .ensures .0) in
-    (l .loop .inv .0, omega arith, omega arith, further)
-
-returns : tie.Need-returns Inv-loop μ-loop
-returns c = done (c .before .before) (c .before .loop-test .left) (eq-eqb _ _ (c .if1 .taken))
+    let h = c .before .before .before .before .before in
+    let told = sym (c .before .is-alike .ensures) ∙ c .if2 .taken in
+    let i = h .loop .inv in
+    (i .0, omega arith, more (a h) (b h) (h .loop .left) (i .0) (i .2) (omega arith) (i .1) told)
 
 returns-2 : tie.Need-returns-2 Inv-loop μ-loop
-returns-2 c = done (c .before .before) (c .before .loop-test .left) (ne-eqb _ _ (c .if1 .left))
+returns-2 c =
+    let h = c .before .before .before .before .before in
+    let told = sym (c .before .is-alike .ensures) ∙ c .if2 .left in
+    let i = h .loop .inv in
+    sym (stopped (a h) (b h) (h .loop .left) (i .0) (i .2) (omega arith) (i .1) told)
+
+returns-3 : tie.Need-returns-3 Inv-loop μ-loop
+returns-3 c =
+    let h = c .before in
+    let i = h .loop .inv in
+    sym (i .2 ∙ same-end (a h) (b h) (length (a h) - h .loop .left) (omega arith) (omega arith))
 
 pub same-name-spec : {M : Type 1} → statement M
 same-name-spec =
@@ -85,14 +96,14 @@ same-name-spec =
     (tie.spec
     Inv-loop
     μ-loop
-    (λ c κs. search needs)
+    returns
     loop-holds
-    shared-slice-read-unlike
-    shared-slice-read-unlike-2
+    sub-at
+    shared-slice-read-is-alike
+    shared-slice-read-is-alike-2
     (λ c κs. search needs)
-    add-differing
-    add-at
+    sub-left
     loop-less
     loop-again
-    returns
-    returns-2)
+    returns-2
+    returns-3)

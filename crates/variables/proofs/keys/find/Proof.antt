@@ -1,7 +1,7 @@
--- `find` meets its contract. The loop's invariant: which record the name means hangs on the lines from there on.
--- The measure is what is left of the lines.
+-- `find` meets its contract. The loop's invariant: which record the name means hangs on the lines from there on. It holds at first
+-- since no line of the blocks that are passed over has the key. The measure is what is left of the lines.
 use mathlib.Core.Bool.{_&&_}
-use mathlib.Core.Path.{_≡_, refl, ap, sym, _∙_}
+use mathlib.Core.Path.{_≡_, ap, sym, _∙_}
 use Prim.Native.Nat.{ℕ, _-_, _%_}
 use native.Mathlib.Omega.{arith}
 use borrow.Author.Needs.{needs}
@@ -10,7 +10,7 @@ use lib.ListN.{length, getD, drop}
 use Rattle.records.specs.Records.{sameName}
 use Rattle.variables.specs.inner.Keys.{recordBy, names, soughtBy, matchAs}
 use Rattle.variables.specs.declared.Match.the-variants.{Record}
-use Rattle.variables.proofs.Lines.{unmet, met, not-met}
+use Rattle.variables.proofs.Lines.{unmet, met, not-met, without-whole, passed-over}
 use Rattle.variables.proofs.keys.find.Statement.{statement}
 use Rattle.variables.proofs.keys.find.Tie as tie
 
@@ -26,7 +26,7 @@ module _ (c : tie.After-is-named Inv-loop μ-loop) where
   head = c .before .before .before
 
   abbrev start : tie.Start Inv-loop μ-loop
-  start = head .before .before .before .before .before .before
+  start = head .before .before .before .before .before .before .before .before
 
   abbrev line : ℕ
   line = getD (start .args .keys .now) (head .loop .at) 0
@@ -34,11 +34,15 @@ module _ (c : tie.After-is-named Inv-loop μ-loop) where
   told : names (start .args .farm .now) (start .args .house .now) line (start .args .name .now) ≡ c .is-named .result
   told =
       ap (λ k. eqb (line % 32768) k && sameName (recordBy (start .args .farm .now) (start .args .house .now) line .name) (start .args .name .now))
-      (sym (head .before .key-of .ensures .0))
+      (sym (head .before .before .before .key-of .ensures .0))
       ∙ sym (c .is-named .ensures)
 
 loop-holds : tie.Need-loop-holds Inv-loop μ-loop
-loop-holds c = refl
+loop-holds c =
+    let k = c .before .before in
+    let a = k .before .before .before .before .before .args in
+    let passed = without-whole (a .keys .now) _ (k .key-of .ensures .0) (c .blocks-without .ensures) in
+    passed-over (a .farm .now) (a .house .now) (a .keys .now) (a .name .now) _ passed
 
 mul-line : tie.Need-mul-line Inv-loop μ-loop
 mul-line c = omega arith
@@ -75,6 +79,10 @@ find-spec =
     (tie.spec
     Inv-loop
     μ-loop
+    (λ c κs. search needs)
+    (λ c. search needs)
+    (λ c. search needs)
+    (λ c. search needs)
     (λ c κs. search needs)
     loop-holds
     mul-line
