@@ -1,5 +1,6 @@
 /* Times the proved library against the same work in plain C and against calls of the C library, in one run. Before that every answer
- * and every byte written is compared. It writes two tables, and behind them lines for bench/plot. */
+ * and every byte written is compared. It writes two tables, and behind them lines for bench/plot. Compiled with WITH_BEFORE it has the
+ * library of another commit among the sides. */
 #define _POSIX_C_SOURCE 200809L
 #include "inputs.h"
 
@@ -8,14 +9,31 @@
 #include <string.h>
 #include <time.h>
 
-enum { REPEATS = 15, SIDES = 4, PROVED = 0, CLANG = 1, GCC = 2, RIVAL = 3 };
+enum { REPEATS = 15 };
 static const double least = 20e6; /* nanoseconds of one sample */
 
 static const struct calls proved = {
     "proved", nos_convert, nos_read_unsigned, nos_check_table, nos_look_up, nos_translate, nos_evaluate,
     nos_convert_date,
 };
+#ifdef WITH_BEFORE
+/* bench/run gives that library's functions these names. */
+extern __typeof__(nos_convert) before_nos_convert;
+extern __typeof__(nos_read_unsigned) before_nos_read_unsigned;
+extern __typeof__(nos_check_table) before_nos_check_table;
+extern __typeof__(nos_look_up) before_nos_look_up;
+extern __typeof__(nos_translate) before_nos_translate;
+extern __typeof__(nos_evaluate) before_nos_evaluate;
+extern __typeof__(nos_convert_date) before_nos_convert_date;
+static const struct calls before = {
+    "before", before_nos_convert, before_nos_read_unsigned, before_nos_check_table, before_nos_look_up, before_nos_translate,
+    before_nos_evaluate, before_nos_convert_date,
+};
+static const struct calls *const sets[] = {&proved, &plain_by_clang, &plain_by_gcc, &before};
+#else
 static const struct calls *const sets[] = {&proved, &plain_by_clang, &plain_by_gcc};
+#endif
+enum { PROVED, CLANG, GCC, BEFORE, SETS = sizeof sets / sizeof *sets, RIVAL = SETS, SIDES = SETS + 1 };
 
 /* Nanoseconds of one pass, by scale, side and repeat. */
 struct times {
@@ -47,7 +65,7 @@ static double sample(const struct work *w, size_t side, struct input *in, unsign
 
 static size_t sides_of(const struct work *w)
 {
-    return w->run_rival ? SIDES : SIDES - 1;
+    return w->run_rival ? SIDES : SETS;
 }
 
 /* Every side's answer and the bytes that it wrote are those of the proved library. */
@@ -129,13 +147,16 @@ static void print_ratio(const struct times *t, size_t side)
 /* How the proved library's time stands to each other side's, at the larger scale. */
 static void print_ratios(void)
 {
-    printf("| work | proved, µs: median (least) | of plain C, clang | of plain C, gcc | of a call of C's |\n|---|---|---|---|---|\n");
+    int has_before = SETS > BEFORE;
+    printf("| work | proved, µs: median (least) | of plain C, clang | of plain C, gcc |%s of a call of C's |\n|---|---|---|---|%s---|\n",
+           has_before ? " of the library before |" : "", has_before ? "---|" : "");
     for (size_t i = 0; i < work_count; i++) {
         if (!is_timed(i)) continue;
         struct spread s = spread_of(times[i].of[1][PROVED]);
         printf("| %s | %.2f (%.2f) |", works[i].name, s.median / 1000, s.least / 1000);
         print_ratio(times + i, CLANG);
         print_ratio(times + i, GCC);
+        if (has_before) print_ratio(times + i, BEFORE);
         if (works[i].rival) {
             printf(" %s:", works[i].rival);
             print_ratio(times + i, RIVAL);
@@ -164,7 +185,7 @@ static void print_growth(void)
 /* The same for programs: kind, work, side, median, least, most, with tabs between them. */
 static void print_lines(void)
 {
-    static const char *const names[] = {"proved", "plain-clang", "plain-gcc", "call"};
+    static const char *const names[] = {"proved", "plain-clang", "plain-gcc", "before"};
     printf("\n");
     for (size_t i = 0; i < work_count; i++) {
         for (size_t side = 0; is_timed(i) && side < sides_of(&works[i]); side++) {
@@ -186,7 +207,7 @@ static void make(const struct work *w)
         restart();
         w->make(in, scale);
         check(w, in);
-        check_changed(w, in, sets, sizeof sets / sizeof *sets);
+        check_changed(w, in, sets, SETS);
     }
 }
 

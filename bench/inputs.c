@@ -155,9 +155,23 @@ static size_t name_of(char name[33], size_t number)
     return (size_t)snprintf(name, 33, "%s$%s", owners[number / 16], parts[number % 16]);
 }
 
+/* Names alike up to their last bytes. */
 static size_t alike_name(char name[33], size_t number)
 {
-    return (size_t)snprintf(name, 33, "Certified$Fields$Diary$Entry%03u", (unsigned)number % 256);
+    return (size_t)snprintf(name, 33, "Certified$Fields$Diary$Entry%03u", (unsigned)number % 1000);
+}
+
+/* Names of one length, with letters by chance: those of a number are always the same. */
+static size_t level_name(char name[33], size_t number)
+{
+    enum { LETTERS = 12 };
+    uint32_t by_number = (uint32_t)number + 1;
+    for (size_t i = 0; i < LETTERS; i++) {
+        by_number = by_number * 1664525 + 1013904223;
+        name[i] = (char)('a' + (by_number >> 24) % 26);
+    }
+    name[LETTERS] = 0;
+    return LETTERS;
 }
 
 static void add_record(struct input *in, enum nos_counting to, uint8_t kind, const char *name, const void *value, size_t length)
@@ -206,11 +220,10 @@ static size_t name_standing(char name[33], enum standing where, size_t count)
     return name_of(name, where * count / 2 + chance((uint32_t)count / 2));
 }
 
-/* A name of the full house table. */
-static size_t house_name(char name[33])
-{
-    return name_of(name, chance(256));
-}
+/* A name of the full house table, by the kind of its names. */
+static size_t house_name(char name[33]) { return name_of(name, chance(256)); }
+static size_t level_house_name(char name[33]) { return level_name(name, chance(256)); }
+static size_t alike_house_name(char name[33]) { return alike_name(name, chance(256)); }
 
 /* Of full tables, a known name: half of them the house's alone, a quarter the farm's alone, a quarter in both. */
 static size_t known_name(char name[33])
@@ -253,15 +266,23 @@ static void add_name(struct input *in, const char *name, uint32_t wanted)
     add(in, name);
 }
 
-static void make_look_ups(struct input *in, unsigned scale)
+/* Names that the house table has, or others of the same kind, which have the numbers after those of a full table. */
+static void make_house_look_ups(struct input *in, unsigned scale, size_t (*naming)(char *, size_t), uint32_t wanted)
 {
     char name[33];
-    make_records(in, scale);
+    make_house(in, scale * 128, 4, naming);
     while (in->count < NAMES) {
-        name_of(name, chance(scale * 128));
-        add_name(in, name, NOS_ACCEPTED);
+        naming(name, chance(scale * 128) + (wanted == NOS_ACCEPTED ? 0 : 256));
+        add_name(in, name, wanted);
     }
 }
+
+static void make_look_ups(struct input *in, unsigned scale) { make_house_look_ups(in, scale, name_of, NOS_ACCEPTED); }
+static void make_misses(struct input *in, unsigned scale) { make_house_look_ups(in, scale, name_of, NOS_UNKNOWN_NAME); }
+static void make_level_look_ups(struct input *in, unsigned scale) { make_house_look_ups(in, scale, level_name, NOS_ACCEPTED); }
+static void make_level_misses(struct input *in, unsigned scale) { make_house_look_ups(in, scale, level_name, NOS_UNKNOWN_NAME); }
+static void make_alike_look_ups(struct input *in, unsigned scale) { make_house_look_ups(in, scale, alike_name, NOS_ACCEPTED); }
+static void make_alike_misses(struct input *in, unsigned scale) { make_house_look_ups(in, scale, alike_name, NOS_UNKNOWN_NAME); }
 
 static void make_look_ups_in_both(struct input *in, unsigned scale)
 {
@@ -307,6 +328,18 @@ static void make_references(struct input *in, unsigned scale)
 {
     make_house(in, 256, 4, name_of);
     add_references(in, scale, house_name);
+}
+
+static void make_level_references(struct input *in, unsigned scale)
+{
+    make_house(in, 256, 4, level_name);
+    add_references(in, scale, level_house_name);
+}
+
+static void make_alike_references(struct input *in, unsigned scale)
+{
+    make_house(in, 256, 4, alike_name);
+    add_references(in, scale, alike_house_name);
 }
 
 static void make_references_to_both(struct input *in, unsigned scale)
@@ -556,6 +589,8 @@ const struct work works[] = {
     {"translate, a reference every 40 bytes", BYTES " and references", make_references, run_translate, NULL, NULL},
     {"translate, references over a full farm's and house table", BYTES " and references", make_references_to_both, run_translate,
      NULL, NULL},
+    {"translate, references to names alike in length", BYTES " and references", make_level_references, run_translate, NULL, NULL},
+    {"translate, references to names alike up to their end", BYTES " and references", make_alike_references, run_translate, NULL, NULL},
     {"translate, macros 16 deep", BYTES " and references", make_deep_macros, run_translate, NULL, NULL},
     {"translate, macros of two macros", BYTES " and references", make_wide_macros, run_translate, NULL, NULL},
     {"translate, a code every 4 bytes", BYTES, make_codes_4, run_translate, NULL, NULL},
@@ -567,6 +602,11 @@ const struct work works[] = {
     {"check_table, 256 records", "the records", make_records, run_check, "a hash", by_hash},
     {"check_table, 256 names alike", "the records", make_alike_records, run_check, "a hash", by_hash},
     {"look_up, names of a full house table, empty farm's", "the records", make_look_ups, run_look_up, NULL, NULL},
+    {"look_up, unknown names, a full house table", "the records", make_misses, run_look_up, NULL, NULL},
+    {"look_up, names alike in length", "the records", make_level_look_ups, run_look_up, NULL, NULL},
+    {"look_up, unknown names alike in length", "the records", make_level_misses, run_look_up, NULL, NULL},
+    {"look_up, names alike up to their end", "the records", make_alike_look_ups, run_look_up, NULL, NULL},
+    {"look_up, unknown names alike up to their end", "the records", make_alike_misses, run_look_up, NULL, NULL},
     {"look_up, over a full farm's and house table", "the records", make_look_ups_in_both, run_look_up, NULL, NULL},
     {"evaluate, a long sum", BYTES, make_sums, run_evaluate, NULL, NULL},
     {"evaluate, brackets 16 deep", BYTES, make_brackets, run_evaluate, NULL, NULL},
