@@ -30,7 +30,7 @@
 #include <stddef.h>
 #include <stdint.h>
 
-#define NOS_VERSION "1.2.1"       /* each change request raises the second number, other work the third; CHANGES.md has them all */
+#define NOS_VERSION "1.3.0"       /* each change request raises the second number, other work the third; CHANGES.md has them all */
 #define NOS_STACK 49152u          /* the most bytes of stack that a call takes */
 #define NOS_LONGEST 65535u        /* the longest text, format or table that is read, in bytes */
 #define NOS_TIME 5u               /* the bytes of a time */
