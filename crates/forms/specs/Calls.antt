@@ -52,6 +52,6 @@ ranged c =
     (cond (ltb c 0xE9) (known (decimal true true true (widthNumber (c - 0xE4))))
     unknown))))))
 
--- &28 is the same as &DC
+-- &28 is as &DC, with no zero byte
 unfoldable pub described : ℕ → Described
-described call = cond (eqb (withoutX call) 0x28) (known (decimal true false true Word)) (ranged (withoutX call))
+described call = cond (eqb (withoutX call) 0x28) (known (decimal true false false Word)) (ranged (withoutX call))

@@ -13,6 +13,8 @@ pub enum Family {
     Signed(Width),
     SpacedUnsigned(Width),
     SpacedSigned(Width),
+    // Signed, of four bytes, and nothing behind the characters.
+    Bare,
 }
 
 // The call's number with bit 17, that of the X form, cleared.
@@ -71,13 +73,13 @@ fn in_range(c: u32) -> Family
     Family::NoCall
 }
 
-// The family of a call. &28 is the same as &DC.
+// The family of a call. &28 is as &DC, with no zero byte.
 pub fn family_of(call: u32) -> Family
     ensures { λ r. ⌜ formOf r ≡ described call ⌝ }
 {
     let c = without_x(call);
     if c == 0x28 {
-        return Family::Signed(Width::Word);
+        return Family::Bare;
     }
     in_range(c)
 }

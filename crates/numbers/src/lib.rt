@@ -1,6 +1,5 @@
 // Numbers to strings: the 26 calls of the chapter, and the signed decimal that other chapters write.
 ghost use mathlib.Core.Path.{_≡_};
-ghost use mathlib.Core.Bool.{true};
 ghost use mathlib.Core.List.{_++_};
 ghost use Prim.Native.Nat.{_≤_};
 ghost use lib.ListN.{length, drop};
@@ -43,10 +42,11 @@ pub fn convert(call: u32, value: u32, buf: &mut [u8]) -> Converted
         },
         Family::Hex(width) => write_fixed(Base::Sixteen, width.bits() / 4, width, value, buf),
         Family::Binary(width) => write_fixed(Base::Two, width.bits(), width, value, buf),
-        Family::Unsigned(width) => write_decimal(false, false, width, value, buf),
-        Family::Signed(width) => write_decimal(true, false, width, value, buf),
-        Family::SpacedUnsigned(width) => write_decimal(false, true, width, value, buf),
-        Family::SpacedSigned(width) => write_decimal(true, true, width, value, buf),
+        Family::Unsigned(width) => write_decimal(false, false, true, width, value, buf),
+        Family::Signed(width) => write_decimal(true, false, true, width, value, buf),
+        Family::SpacedUnsigned(width) => write_decimal(false, true, true, width, value, buf),
+        Family::SpacedSigned(width) => write_decimal(true, true, true, width, value, buf),
+        Family::Bare => write_decimal(true, false, false, Width::Word, value, buf),
     }
 }
 
@@ -76,17 +76,24 @@ fn write_fixed(base: Base, digits: u8, width: Width, value: u32, buf: &mut [u8])
     write_number(number, base, digits as usize, false, true, buf)
 }
 
-// A decimal string with its zero byte.
-fn write_decimal(signed: bool, spaced: bool, width: Width, value: u32, buf: &mut [u8]) -> Converted
-    ensures answer { λ r. ⌜ r ≡ convertedBy (answerIn (known (decimal signed spaced true width)) value (length (now (buf .entry)))) ⌝ }
-    ensures buffer { λ r. ⌜ now (buf .exit) ≡ bufferIn (known (decimal signed spaced true width)) value (now (buf .entry)) ⌝ }
+// A decimal string, with its zero byte where it is terminated.
+fn write_decimal(
+    signed: bool,
+    spaced: bool,
+    terminated: bool,
+    width: Width,
+    value: u32,
+    buf: &mut [u8],
+) -> Converted
+    ensures answer { λ r. ⌜ r ≡ convertedBy (answerIn (known (decimal signed spaced terminated width)) value (length (now (buf .entry)))) ⌝ }
+    ensures buffer { λ r. ⌜ now (buf .exit) ≡ bufferIn (known (decimal signed spaced terminated width)) value (now (buf .entry)) ⌝ }
 {
     let number = size::number_in(signed, width, value);
     let count = counts::count_decimal(number.magnitude);
-    write_number(number, Base::Ten, count, spaced, true, buf)
+    write_number(number, Base::Ten, count, spaced, terminated, buf)
 }
 
-// The last `count` digits of a number, its minus and its zero byte, whole or not at all.
+// The last `count` digits of a number and its minus, with a zero byte where it is terminated: whole or not at all.
 fn write_number(
     number: Number,
     base: Base,

@@ -1,26 +1,32 @@
 -- What `convert` promises is kept.
 use mathlib.Core.Path.{_≡_, refl, ap, ap₂, sym, subst, _∙_}
+use mathlib.Core.Bool.{Bool, true, false, not, cond}
 use mathlib.Core.List.{List, [], _++_, append-nil}
+use mathlib.Core.Logic.{_↔_}
 use Prim.Native.Nat.{ℕ, _+_, _-_, _≤_, _<_}
 use native.Mathlib.Omega.{arith}
+use borrow.Author.Tests.{eqb-true, eqb-false}
+use lib.Dec.{ltb, eqb}
 use lib.ListN.{length, take, drop, length-append}
 use lib.Seq.{take-append-seam}
 use Rattle.paper.specs.Answers.{in-text, Answer, refusal, GrownWhole}
 use Rattle.paper.specs.Layings.{terminator, convertedAnswer}
 use Rattle.paper.specs.Refusals.{no-room, unknown-call, longest}
+use Rattle.paper.proofs.Choice.{clash, either}
 use Rattle.paper.proofs.Laid as Laid
 use Rattle.paper.proofs.Laid.{no-room-for, laid, grows-by}
 use Rattle.forms.specs.Strings.{Form, used, string}
-use Rattle.forms.specs.Calls.{unknown, known, described}
+use Rattle.forms.specs.Calls.{withoutX, hex, binary, decimal, decimalOf, Described, unknown, known, ranged, described}
 use Rattle.forms.specs.declared.forms.Base.{Base}
 use Rattle.forms.specs.declared.forms.Base.the-variants.{Two, Ten, Sixteen}
+use Rattle.forms.specs.declared.forms.Width.the-variants.{Word}
 use Rattle.numbers.specs.Conversions.{answerOf}
 use Rattle.paper.specs.declared.layings.Converted.{Converted}
 use Rattle.numbers.proofs.Bounds.{string-short}
 use Rattle.reader.specs.Reading.{no-limit, reading, valued, readNumber, readPlace, readValue}
 use Rattle.promises.specs.Leads.{lead}
 use Rattle.promises.proofs.ReadBack.{read-back}
-use Rattle.promises.specs.Conversions.{OneAnswer, Accepts, needed, Refuses, Refusals, Tells, Exact, OffsetAndFree, Bytes, ReadAs, ReadsBack, LargerRoom, SecondAsk}
+use Rattle.promises.specs.Conversions.{OneAnswer, Accepts, needed, Refuses, Refusals, Tells, Exact, OffsetAndFree, Bytes, Terminated, GivesAlone, CharactersAlone, SameCharacters, ReadAs, ReadsBack, LargerRoom, SecondAsk}
 use Rattle.promises.proofs.Layings as Layings
 use Rattle.promises.proofs.Layings.{accepts-by, refusal-grows}
 use Rattle.promises.proofs.Outcomes.{Outcome, refuses, lays, one-form, not-both, outcome}
@@ -110,6 +116,80 @@ offset-and-free call value buf after r c = summed call value buf (convertedAnswe
 
 pub bytes : Bytes
 bytes call value form buf after r e c accepted = written call value buf form (convertedAnswer r) after e accepted (outcome call value buf r after c) .1
+
+-- whether a zero byte stands behind the string of a call, where the call is known
+data Ends : Bool → Described → Type 0 where
+  no-string : {terminated : Bool} → Ends terminated unknown
+  string-of : (form : Form) → Ends (form .terminated) (known form)
+
+ranged-ends : (c : ℕ) → Ends true (ranged c)
+unfolding ranged
+ranged-ends c =
+    either (Ends true) (ltb c 0xD0) (λ _. no-string)
+    (λ _. either (Ends true) (ltb c 0xD5) (λ _. string-of (hex _))
+    (λ _. either (Ends true) (ltb c 0xD9) (λ _. string-of (decimal false false true _))
+    (λ _. either (Ends true) (ltb c 0xDD) (λ _. string-of (decimal true false true _))
+    (λ _. either (Ends true) (ltb c 0xE1) (λ _. string-of (binary _))
+    (λ _. either (Ends true) (ltb c 0xE5) (λ _. string-of (decimal false true true _))
+    (λ _. either (Ends true) (ltb c 0xE9) (λ _. string-of (decimal true true true _)) (λ _. no-string)))))))
+
+-- the form of &28
+abbrev bare : Form
+bare = decimal true false false Word
+
+-- the form of a call's number, by whether that is 0x28
+abbrev numbered : Bool → ℕ → Described
+numbered is-28 c = cond is-28 (known bare) (ranged c)
+
+numbered-ends : (is-28 : Bool) (c : ℕ) → Ends (not is-28) (numbered is-28 c)
+numbered-ends true c = string-of bare
+numbered-ends false c = ranged-ends c
+
+ends-as : {terminated : Bool} {d : Described} (form : Form) → Ends terminated d → d ≡ known form → form .terminated ≡ terminated
+ends-as form no-string e = clash (cc)
+ends-as form (string-of f) e = let same : f ≡ form = cc in ap (λ f. f .terminated) (sym same)
+
+-- a call has the form of its number without the X form's bit
+form-of : (call n : ℕ) → withoutX call ≡ n → described call ≡ numbered (eqb n 0x28) n
+unfolding described
+form-of call n w = ap (λ n. numbered (eqb n 0x28) n) w
+
+pub terminated : Terminated
+terminated call form e = go (eqb (withoutX call) 0x28) refl
+  where
+    ends : form .terminated ≡ not (eqb (withoutX call) 0x28)
+    ends = ends-as form (numbered-ends (eqb (withoutX call) 0x28) (withoutX call)) (sym (form-of call (withoutX call) refl) ∙ e)
+
+    go : (b : Bool) → eqb (withoutX call) 0x28 ≡ b → (form .terminated ≡ false) ↔ (withoutX call ≡ 0x28)
+    go true is = (λ _. eqb-true (withoutX call) 0x28 is, λ _. ends ∙ ap not is)
+    go false is =
+        let is-terminated : form .terminated ≡ true = ends ∙ ap not is in
+        (λ f. clash (cc), λ w. absurd (eqb-false (withoutX call) 0x28 is w))
+
+pub characters-alone : CharactersAlone
+characters-alone call value buf after r w c =
+    let form : described call ≡ known bare = form-of call 0x28 w in
+    let alone : needed bare value ≡ length (decimalOf value) = omega arith in
+    let told = exact call value buf after r c in
+    let refused = refusals call value buf after r c in
+    record {
+      accepted = λ room. (
+        told .accepted bare form (omega arith)
+            ∙ ap (λ n. record { number = 0; counted = in-text; place = length (decimalOf value); need = n; free = length buf - length (decimalOf value) }) alone,
+        bytes call value bare buf after r form c (refused .accepted .1 (bare, form, omega arith))
+            ∙ ap (λ n. decimalOf value ++ drop n buf) alone,
+      );
+      no-room = λ less. (
+        told .no-room bare form (omega arith)
+            ∙ ap (λ n. record { number = no-room; counted = in-text; place = 0; need = n; free = length buf }) alone,
+        let number = refused .room .1 (bare, form, omega arith) in
+            refused .kept (λ e. omega arith),
+      );
+    }
+
+pub same-characters : SameCharacters
+unfolding ranged string
+same-characters call value form w e = ap (λ f. string f value) (one-form call form (decimal true false true Word) e (form-of call 0xDC w))
 
 lead-short : (base : Base) → length (lead base) ≤ 2
 lead-short Two = omega arith

@@ -62,7 +62,7 @@ familyIn : Base → Form → Family
 familyIn Two form = Families.Binary (form .width)
 familyIn Ten form =
     cond (form .spaced) (cond (form .signed) (Families.SpacedSigned (form .width)) (Families.SpacedUnsigned (form .width)))
-    (cond (form .signed) (Families.Signed (form .width)) (Families.Unsigned (form .width)))
+    (cond (form .signed) (cond (form .terminated) (Families.Signed (form .width)) Families.Bare) (Families.Unsigned (form .width)))
 familyIn Sixteen form = Families.Hex (form .width)
 
 familyBy : Described → Family
@@ -78,6 +78,7 @@ family-back (Families.Unsigned width) = refl
 family-back (Families.Signed width) = refl
 family-back (Families.SpacedUnsigned width) = refl
 family-back (Families.SpacedSigned width) = refl
+family-back Families.Bare = refl
 
 -- an operator behind an operand, as the code has it, by the definitions' own type
 behindBy : Link → Behind

@@ -46,7 +46,7 @@ use Rattle.arithmetic.specs.Values.{signed, sum, difference, product, quotient,
 use Rattle.promises.specs.Allowed.{Converts, Dates, Translates, Evaluates}
 use Rattle.promises.specs.Conversions as Numbers
 use Rattle.promises.specs.Dates.{Fit, fieldsIn, needed}
-use Rattle.promises.specs.Examples.{writes, lacks, dates, mistakes, reads, refuses, translates, stops, evaluates, fails, finds, selfNaming, named-x, numbered-7, naming-a, first-time, last-time, february-1900, march-1900, end-of-1999, end-of-2000, february-2000, Holds, All, examples}
+use Rattle.promises.specs.Examples.{writes, gives, lacks, dates, mistakes, reads, refuses, translates, stops, evaluates, fails, finds, selfNaming, named-x, numbered-7, naming-a, first-time, last-time, february-1900, march-1900, end-of-1999, end-of-2000, february-2000, Holds, All, examples}
 use Rattle.promises.proofs.ConversionsKept as Conversions
 use Rattle.promises.proofs.DatesKept as DatesOf
 
@@ -115,6 +115,26 @@ p6 buf after r long c = writes-row 0xE8 2147483648 15 (decimal true true true Wo
 p7 : Holds (writes 0xD3 1048576 7 "100000" 6 7 1)
 unfolding answerOf described ranged layingOf string digits enough
 p7 buf after r long c = writes-row 0xD3 1048576 7 (hex ThreeBytes) refl buf after r _ long c (lit≤ tt) refl
+
+without-a-zero-byte : Holds (gives 0x28 1048576 7 "1048576" 7 7 0)
+unfolding answerOf described ranged layingOf string digits enough
+without-a-zero-byte buf after r long c = writes-row 0x28 1048576 7 (decimal true false false Word) refl buf after r _ long c (lit≤ tt) refl
+
+lacks-a-character : Holds (lacks 0x28 1048576 6 7)
+unfolding answerOf described ranged layingOf string digits enough
+lacks-a-character buf after r long c = lacks-row 0x28 1048576 6 (decimal true false false Word) refl buf after r _ long c (lit< tt) refl
+
+with-a-zero-byte : Holds (writes 0xDC 1048576 8 "1048576" 7 8 1)
+unfolding answerOf described ranged layingOf string digits enough
+with-a-zero-byte buf after r long c = writes-row 0xDC 1048576 8 (decimal true false true Word) refl buf after r _ long c (lit≤ tt) refl
+
+lacks-its-zero-byte : Holds (lacks 0xDC 1048576 7 8)
+unfolding answerOf described ranged layingOf string digits enough
+lacks-its-zero-byte buf after r long c = lacks-row 0xDC 1048576 7 (decimal true false true Word) refl buf after r _ long c (lit< tt) refl
+
+a-byte-stays : Holds (gives 0x20028 4294967289 3 "-7" 2 2 1)
+unfolding answerOf described ranged layingOf string digits enough
+a-byte-stays buf after r long c = writes-row 0x20028 4294967289 3 (decimal true false false Word) refl buf after r _ long c (lit≤ tt) refl
 
 p8 : Holds (reads "2_1102" 6 5)
 unfolding reading numbered inBase judgedReading digit
@@ -306,4 +326,4 @@ four-bytes buf after r long c = mistakes-row (0 ∷ 0 ∷ 0 ∷ 0 ∷ []) (bytes
 
 -- the table, whole
 pub worked-examples : All examples
-worked-examples = (p1, (p2, (p3, (p4, (p5, (p6, (p7, (p8, (p9, (p10, (p11, (p12, (p13, (p13-farm, (p14, (p15, (empty-text, (string-hides, (integer-hides, (integer-counts, (string-counts-not, (found-in-the-farm, (found-in-the-house, (macro-of-the-house, (macro-of-the-farm, (macro-spends-two, (farm-told-first, (house-told, (names-itself-thrice, (names-itself, (names-itself-behind, (zero-divisor-unread, (first-date, (last-date, (day-in-2000, (last-of-february, (first-of-march, (day-366, (day-365, (percent-signs, (percent-sign-left, (small-letters, (half-a-name, (room-too-small, (empty-format, (four-bytes, tt))))))))))))))))))))))))))))))))))))))))))))))
+worked-examples = (p1, (p2, (p3, (p4, (p5, (p6, (p7, (p8, (p9, (p10, (p11, (p12, (p13, (p13-farm, (p14, (p15, (without-a-zero-byte, (lacks-a-character, (with-a-zero-byte, (lacks-its-zero-byte, (a-byte-stays, (empty-text, (string-hides, (integer-hides, (integer-counts, (string-counts-not, (found-in-the-farm, (found-in-the-house, (macro-of-the-house, (macro-of-the-farm, (macro-spends-two, (farm-told-first, (house-told, (names-itself-thrice, (names-itself, (names-itself-behind, (zero-divisor-unread, (first-date, (last-date, (day-in-2000, (last-of-february, (first-of-march, (day-366, (day-365, (percent-signs, (percent-sign-left, (small-letters, (half-a-name, (room-too-small, (empty-format, (four-bytes, tt)))))))))))))))))))))))))))))))))))))))))))))))))))

@@ -9,7 +9,7 @@ use Rattle.paper.specs.Answers.{in-text, Answer, refusal, GrownWhole}
 use Rattle.paper.specs.Layings.{terminator, roomFor, convertedAnswer}
 use Rattle.paper.specs.Refusals.{no-room, unknown-call}
 use Rattle.forms.specs.Strings.{Form, used, string}
-use Rattle.forms.specs.Calls.{unknown, known, described}
+use Rattle.forms.specs.Calls.{withoutX, decimalOf, unknown, known, described}
 use Rattle.paper.specs.declared.layings.Converted.{Converted}
 use Rattle.reader.specs.Reading.{no-limit, readNumber, readPlace, readValue}
 use Rattle.reader.specs.declared.Reading.{Reading}
@@ -55,18 +55,39 @@ pub record Tells (call value : ℕ) (room : ℕ) (a : Answer) : Type 0 where
 abbrev pub Exact : Type 0
 Exact = (call value : ℕ) (buf after : List ℕ) (r : Converted) → Converts call value buf r after → Tells call value (length buf) (convertedAnswer r)
 
--- the zero byte counts as free: offset and free make up the room
+-- a zero byte counts as free: offset and free make up the room
 abbrev pub OffsetAndFree : Type 0
 OffsetAndFree =
     (call value : ℕ) (buf after : List ℕ) (r : Converted) → Converts call value buf r after → convertedAnswer r .number ≡ 0
     → convertedAnswer r .place + convertedAnswer r .free ≡ length buf
 
--- Demand 2: an accepted call leaves its string, its zero byte and the bytes behind it
+-- Demand 2: an accepted call leaves its string, a zero byte if it has one, and the bytes behind it
 abbrev pub Bytes : Type 0
 Bytes =
     (call value : ℕ) (form : Form) (buf after : List ℕ) (r : Converted)
     → described call ≡ known form → Converts call value buf r after → convertedAnswer r .number ≡ 0
     → after ≡ string form value ++ (terminator (form .terminated) ++ drop (needed form value) buf)
+
+-- a zero byte stands behind the string of every call but &28 and its X form
+abbrev pub Terminated : Type 0
+Terminated = (call : ℕ) (form : Form) → described call ≡ known form → (form .terminated ≡ false) ↔ (withoutX call ≡ 0x28)
+
+-- these two give the characters and their number: that is the offset and the need, free is the room less that, and the byte behind stays
+pub record GivesAlone (characters buf after : List ℕ) (a : Answer) : Type 0 where
+  pub accepted : length characters ≤ length buf
+      → (a ≡ record { number = 0; counted = in-text; place = length characters; need = length characters; free = length buf - length characters })
+      × (after ≡ characters ++ drop (length characters) buf)
+  pub no-room : length buf < length characters
+      → (a ≡ record { number = no-room; counted = in-text; place = 0; need = length characters; free = length buf }) × (after ≡ buf)
+
+abbrev pub CharactersAlone : Type 0
+CharactersAlone =
+    (call value : ℕ) (buf after : List ℕ) (r : Converted) → withoutX call ≡ 0x28 → Converts call value buf r after
+    → GivesAlone (decimalOf value) buf after (convertedAnswer r)
+
+-- which are those of &DC
+abbrev pub SameCharacters : Type 0
+SameCharacters = (call value : ℕ) (form : Form) → withoutX call ≡ 0xDC → described call ≡ known form → string form value ≡ decimalOf value
 
 -- Demand 2: a string without a sign or spaces is read, behind what tells its base, as the bits that the call uses, up to its end
 pub record ReadAs (n end : ℕ) (r : Reading) : Type 0 where

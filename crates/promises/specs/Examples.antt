@@ -25,6 +25,8 @@ use Rattle.paper.specs.Texts.{bytes}
 pub data Row : Type 0 where
   -- a call, a value and a room: the string, its zero byte's offset, the need, the room left
   writes : (call value room : ℕ) (string : String) (offset need free : ℕ) → Row
+  -- the same of a call whose string has no zero byte: the offset is behind its last character
+  gives : (call value room : ℕ) (string : String) (offset need free : ℕ) → Row
   -- a call, a value and a room that is too small: the need
   lacks : (call value room need : ℕ) → Row
   -- a time, a format and a room: the string, its zero byte's offset, the need, the room left
@@ -51,6 +53,9 @@ abbrev pub Holds : Row → Type 0
 Holds (writes call value room string offset need free) =
     (buf after : List ℕ) (r : Converted) → length buf ≡ room → Converts call value buf r after
     → (convertedAnswer r ≡ record { number = 0; counted = in-text; place = offset; need = need; free = free }) × (after ≡ bytes string ++ (0 ∷ drop need buf))
+Holds (gives call value room string offset need free) =
+    (buf after : List ℕ) (r : Converted) → length buf ≡ room → Converts call value buf r after
+    → (convertedAnswer r ≡ record { number = 0; counted = in-text; place = offset; need = need; free = free }) × (after ≡ bytes string ++ drop need buf)
 Holds (lacks call value room need) =
     (buf after : List ℕ) (r : Converted) → length buf ≡ room → Converts call value buf r after
     → (convertedAnswer r ≡ record { number = no-room; counted = in-text; place = 0; need = need; free = room }) × (after ≡ buf)
@@ -157,6 +162,13 @@ examples =
     ∷ evaluates "2147483647+1" [] [] 0 (negℤ (pos 2147483648)) 12
     -- P15
     ∷ evaluates "-7 MOD 2" [] [] 0 (negℤ (pos 1)) 8
+    -- &28 takes the room of its characters, and &DC one byte more
+    ∷ gives 0x28 1048576 7 "1048576" 7 7 0
+    ∷ lacks 0x28 1048576 6 7
+    ∷ writes 0xDC 1048576 8 "1048576" 7 8 1
+    ∷ lacks 0xDC 1048576 7 8
+    -- the X form, and a byte that stays behind the characters
+    ∷ gives 0x20028 4294967289 3 "-7" 2 2 1
     -- an empty text and no room
     ∷ translates "" [] [] 0 0 [] 0 0
     -- a farm's string hides the house's integer, and the other way round; one look-up is enough

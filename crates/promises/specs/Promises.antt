@@ -22,6 +22,9 @@ pub record Promises : Type 0 where
   pub convert-exact : Conversions.Exact
   pub convert-offset-and-free : Conversions.OffsetAndFree
   pub convert-bytes : Conversions.Bytes
+  pub convert-terminated : Conversions.Terminated
+  pub convert-characters-alone : Conversions.CharactersAlone
+  pub convert-same-characters : Conversions.SameCharacters
   pub convert-reads-back : Conversions.ReadsBack
   pub convert-larger-room : Conversions.LargerRoom
   pub convert-second-ask : Conversions.SecondAsk

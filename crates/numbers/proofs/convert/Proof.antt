@@ -61,6 +61,9 @@ returns-6 c = answers (c .before .before .before .before .before .before .before
 returns-7 : tie.Need-returns-7
 returns-7 c = answers (c .before .before .before .before .before .before .before) _ _ (c .before .before .before .before .before .family6 .given .1) refl (c .before .before .write-decimal4 .ensures)
 
+returns-8 : tie.Need-returns-8
+returns-8 c = answers (c .before .before .before .before .before .before) _ _ (c .before .before .before .before .enum-told2 .given .1) refl (c .before .before .write-decimal5 .ensures)
+
 pub convert-spec : {M : Type 1} → statement M
 convert-spec =
     tie.close
@@ -81,6 +84,8 @@ convert-spec =
     (λ c κs. search needs)
     (λ c. search needs)
     (λ c κs. search needs)
+    (λ c. search needs)
+    (λ c κs. search needs)
     returns
     (λ c. search needs)
     returns-2
@@ -93,4 +98,6 @@ convert-spec =
     (λ c. search needs)
     returns-6
     (λ c. search needs)
-    returns-7)
+    returns-7
+    (λ c. search needs)
+    returns-8)
