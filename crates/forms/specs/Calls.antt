@@ -31,9 +31,13 @@ abbrev pub decimal : Bool → Bool → Bool → Width → Form
 decimal signed spaced terminated width =
     record { base = Ten; padded = false; width = width; signed = signed; spaced = spaced; terminated = terminated }
 
+-- signed, of four bytes, with no zero byte
+abbrev pub bare : Form
+bare = decimal true false false Word
+
 -- the signed decimal of a 32-bit pattern
 abbrev pub decimalOf : ℕ → List ℕ
-decimalOf value = string (decimal true false false Word) value
+decimalOf value = string bare value
 
 -- what a call's number stands for: a form, or nothing
 pub data Described : Type 0 where
@@ -54,4 +58,4 @@ ranged c =
 
 -- &28 is as &DC, with no zero byte
 unfoldable pub described : ℕ → Described
-described call = cond (eqb (withoutX call) 0x28) (known (decimal true false false Word)) (ranged (withoutX call))
+described call = cond (eqb (withoutX call) 0x28) (known bare) (ranged (withoutX call))

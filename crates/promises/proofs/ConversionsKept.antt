@@ -3,30 +3,30 @@ use mathlib.Core.Path.{_≡_, refl, ap, ap₂, sym, subst, _∙_}
 use mathlib.Core.Bool.{Bool, true, false, not, cond}
 use mathlib.Core.List.{List, [], _++_, append-nil}
 use mathlib.Core.Logic.{_↔_}
-use Prim.Native.Nat.{ℕ, _+_, _-_, _≤_, _<_}
+use Prim.Native.Nat.{ℕ, _+_, _-_, _/_, _%_, _≤_, _<_}
 use native.Mathlib.Omega.{arith}
 use borrow.Author.Tests.{eqb-true, eqb-false}
 use lib.Dec.{ltb, eqb}
 use lib.ListN.{length, take, drop, length-append}
 use lib.Seq.{take-append-seam}
 use Rattle.paper.specs.Answers.{in-text, Answer, refusal, GrownWhole}
-use Rattle.paper.specs.Layings.{terminator, convertedAnswer}
+use Rattle.paper.specs.Layings.{terminator, convertedBy, convertedAnswer}
 use Rattle.paper.specs.Refusals.{no-room, unknown-call, longest}
-use Rattle.paper.proofs.Choice.{clash, either}
+use Rattle.paper.proofs.Choice.{clash, same, other, either}
 use Rattle.paper.proofs.Laid as Laid
 use Rattle.paper.proofs.Laid.{no-room-for, laid, grows-by}
 use Rattle.forms.specs.Strings.{Form, used, string}
-use Rattle.forms.specs.Calls.{withoutX, hex, binary, decimal, decimalOf, Described, unknown, known, ranged, described}
+use Rattle.forms.specs.Calls.{withoutX, hex, binary, decimal, bare, decimalOf, Described, unknown, known, ranged, described}
 use Rattle.forms.specs.declared.forms.Base.{Base}
 use Rattle.forms.specs.declared.forms.Base.the-variants.{Two, Ten, Sixteen}
 use Rattle.forms.specs.declared.forms.Width.the-variants.{Word}
-use Rattle.numbers.specs.Conversions.{answerOf}
+use Rattle.numbers.specs.Conversions.{answerIn, bufferIn, answerOf, bufferOf}
 use Rattle.paper.specs.declared.layings.Converted.{Converted}
 use Rattle.numbers.proofs.Bounds.{string-short}
 use Rattle.reader.specs.Reading.{no-limit, reading, valued, readNumber, readPlace, readValue}
 use Rattle.promises.specs.Leads.{lead}
 use Rattle.promises.proofs.ReadBack.{read-back}
-use Rattle.promises.specs.Conversions.{OneAnswer, Accepts, needed, Refuses, Refusals, Tells, Exact, OffsetAndFree, Bytes, Terminated, GivesAlone, CharactersAlone, SameCharacters, ReadAs, ReadsBack, LargerRoom, SecondAsk}
+use Rattle.promises.specs.Conversions.{OneAnswer, Accepts, needed, Refuses, Refusals, Tells, Exact, OffsetAndFree, Bytes, XForm, Terminated, GivesAlone, CharactersAlone, SameCharacters, ReadAs, ReadsBack, LargerRoom, SecondAsk}
 use Rattle.promises.proofs.Layings as Layings
 use Rattle.promises.proofs.Layings.{accepts-by, refusal-grows}
 use Rattle.promises.proofs.Outcomes.{Outcome, refuses, lays, one-form, not-both, outcome}
@@ -133,10 +133,6 @@ ranged-ends c =
     (λ _. either (Ends true) (ltb c 0xE5) (λ _. string-of (decimal false true true _))
     (λ _. either (Ends true) (ltb c 0xE9) (λ _. string-of (decimal true true true _)) (λ _. no-string)))))))
 
--- the form of &28
-abbrev bare : Form
-bare = decimal true false false Word
-
 -- the form of a call's number, by whether that is 0x28
 abbrev numbered : Bool → ℕ → Described
 numbered is-28 c = cond is-28 (known bare) (ranged c)
@@ -189,7 +185,23 @@ characters-alone call value buf after r w c =
 
 pub same-characters : SameCharacters
 unfolding ranged string
-same-characters call value form w e = ap (λ f. string f value) (one-form call form (decimal true false true Word) e (form-of call 0xDC w))
+same-characters call value w = (decimal true false true Word, form-of call 0xDC w, refl, refl)
+
+-- a call and its X form have one form
+without-bit-17 : (call : ℕ) → call / 131072 % 2 ≡ 0 → withoutX (call + 131072) ≡ withoutX call
+without-bit-17 call plain =
+    let with-it : withoutX (call + 131072) ≡ call = sym (same ((call + 131072) / 131072 % 2) 1 _ _ (omega arith) (omega arith)) in
+    let without-it : withoutX call ≡ call = sym (other (call / 131072 % 2) 1 _ _ (λ e. omega arith) refl) in
+    with-it ∙ sym without-it
+
+pub x-form : XForm
+unfolding answerOf bufferOf
+x-form call value buf after after′ r r′ plain c c′ =
+    let alike : described call ≡ described (call + 131072) =
+    form-of call (withoutX call) refl ∙ sym (form-of (call + 131072) (withoutX call) (without-bit-17 call plain)) in (
+      c .answer ∙ ap (λ d. convertedBy (answerIn d value (length buf))) alike ∙ sym (c′ .answer),
+      c .buffer ∙ ap (λ d. bufferIn d value buf) alike ∙ sym (c′ .buffer),
+    )
 
 lead-short : (base : Base) → length (lead base) ≤ 2
 lead-short Two = omega arith

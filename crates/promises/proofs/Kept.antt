@@ -23,6 +23,7 @@ promises =
       convert-exact = Conversions.exact;
       convert-offset-and-free = Conversions.offset-and-free;
       convert-bytes = Conversions.bytes;
+      convert-x-form = Conversions.x-form;
       convert-terminated = Conversions.terminated;
       convert-characters-alone = Conversions.characters-alone;
       convert-same-characters = Conversions.same-characters;

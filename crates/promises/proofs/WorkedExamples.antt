@@ -16,7 +16,7 @@ use Rattle.paper.specs.Texts.{bytes}
 use Rattle.paper.specs.Traces as Traces
 use Rattle.forms.specs.Digits.{digits, enough}
 use Rattle.forms.specs.Strings.{Form, string}
-use Rattle.forms.specs.Calls.{hex, decimal, known, ranged, described}
+use Rattle.forms.specs.Calls.{hex, decimal, bare, known, ranged, described}
 use Rattle.forms.specs.declared.forms.Width.the-variants.{Byte, ThreeBytes, Word}
 use Rattle.numbers.specs.Conversions.{answerOf}
 use Rattle.paper.specs.declared.layings.Converted.{Converted}
@@ -118,11 +118,11 @@ p7 buf after r long c = writes-row 0xD3 1048576 7 (hex ThreeBytes) refl buf afte
 
 without-a-zero-byte : Holds (gives 0x28 1048576 7 "1048576" 7 7 0)
 unfolding answerOf described ranged layingOf string digits enough
-without-a-zero-byte buf after r long c = writes-row 0x28 1048576 7 (decimal true false false Word) refl buf after r _ long c (lit≤ tt) refl
+without-a-zero-byte buf after r long c = writes-row 0x28 1048576 7 bare refl buf after r _ long c (lit≤ tt) refl
 
 lacks-a-character : Holds (lacks 0x28 1048576 6 7)
 unfolding answerOf described ranged layingOf string digits enough
-lacks-a-character buf after r long c = lacks-row 0x28 1048576 6 (decimal true false false Word) refl buf after r _ long c (lit< tt) refl
+lacks-a-character buf after r long c = lacks-row 0x28 1048576 6 bare refl buf after r _ long c (lit< tt) refl
 
 with-a-zero-byte : Holds (writes 0xDC 1048576 8 "1048576" 7 8 1)
 unfolding answerOf described ranged layingOf string digits enough
@@ -134,7 +134,7 @@ lacks-its-zero-byte buf after r long c = lacks-row 0xDC 1048576 7 (decimal true 
 
 a-byte-stays : Holds (gives 0x20028 4294967289 3 "-7" 2 2 1)
 unfolding answerOf described ranged layingOf string digits enough
-a-byte-stays buf after r long c = writes-row 0x20028 4294967289 3 (decimal true false false Word) refl buf after r _ long c (lit≤ tt) refl
+a-byte-stays buf after r long c = writes-row 0x20028 4294967289 3 bare refl buf after r _ long c (lit≤ tt) refl
 
 p8 : Holds (reads "2_1102" 6 5)
 unfolding reading numbered inBase judgedReading digit

@@ -3,7 +3,7 @@ use mathlib.Core.Path.{_≡_}
 use mathlib.Core.Bool.{Bool, true, false}
 use mathlib.Core.List.{List, _++_}
 use mathlib.Core.Logic.{_↔_}
-use Prim.Native.Nat.{ℕ, _+_, _-_, _≤_, _<_}
+use Prim.Native.Nat.{ℕ, _+_, _-_, _/_, _%_, _≤_, _<_}
 use lib.ListN.{length, take, drop}
 use Rattle.paper.specs.Answers.{in-text, Answer, refusal, GrownWhole}
 use Rattle.paper.specs.Layings.{terminator, roomFor, convertedAnswer}
@@ -68,11 +68,17 @@ Bytes =
     → described call ≡ known form → Converts call value buf r after → convertedAnswer r .number ≡ 0
     → after ≡ string form value ++ (terminator (form .terminated) ++ drop (needed form value) buf)
 
--- a zero byte stands behind the string of every call but &28 and its X form
+-- bit 17, that of the X form, makes no difference
+abbrev pub XForm : Type 0
+XForm =
+    (call value : ℕ) (buf after after′ : List ℕ) (r r′ : Converted) → call / 131072 % 2 ≡ 0
+    → Converts call value buf r after → Converts (call + 131072) value buf r′ after′ → (r ≡ r′) × (after ≡ after′)
+
+-- the form of every call but &28 and its X form is terminated: `Bytes` has what that means
 abbrev pub Terminated : Type 0
 Terminated = (call : ℕ) (form : Form) → described call ≡ known form → (form .terminated ≡ false) ↔ (withoutX call ≡ 0x28)
 
--- these two give the characters and their number: that is the offset and the need, free is the room less that, and the byte behind stays
+-- those two give the characters and their number: that is the offset and the need, free is the room less that, and the byte behind stays
 pub record GivesAlone (characters buf after : List ℕ) (a : Answer) : Type 0 where
   pub accepted : length characters ≤ length buf
       → (a ≡ record { number = 0; counted = in-text; place = length characters; need = length characters; free = length buf - length characters })
@@ -85,9 +91,11 @@ CharactersAlone =
     (call value : ℕ) (buf after : List ℕ) (r : Converted) → withoutX call ≡ 0x28 → Converts call value buf r after
     → GivesAlone (decimalOf value) buf after (convertedAnswer r)
 
--- which are those of &DC
+-- &DC has the same characters, with a zero byte
 abbrev pub SameCharacters : Type 0
-SameCharacters = (call value : ℕ) (form : Form) → withoutX call ≡ 0xDC → described call ≡ known form → string form value ≡ decimalOf value
+SameCharacters =
+    (call value : ℕ) → withoutX call ≡ 0xDC
+    → (form : Form) × (described call ≡ known form) × (form .terminated ≡ true) × (string form value ≡ decimalOf value)
 
 -- Demand 2: a string without a sign or spaces is read, behind what tells its base, as the bits that the call uses, up to its end
 pub record ReadAs (n end : ℕ) (r : Reading) : Type 0 where

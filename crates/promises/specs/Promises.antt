@@ -22,6 +22,7 @@ pub record Promises : Type 0 where
   pub convert-exact : Conversions.Exact
   pub convert-offset-and-free : Conversions.OffsetAndFree
   pub convert-bytes : Conversions.Bytes
+  pub convert-x-form : Conversions.XForm
   pub convert-terminated : Conversions.Terminated
   pub convert-characters-alone : Conversions.CharactersAlone
   pub convert-same-characters : Conversions.SameCharacters

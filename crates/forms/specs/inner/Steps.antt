@@ -3,11 +3,10 @@ use mathlib.Core.Bool.{Bool, true, false, cond, _&&_}
 use Prim.Native.Nat.{ℕ, _-_, _*_, _%_, _^_}
 use lib.Dec.{leb}
 use Rattle.forms.specs.Strings.{bits}
-use Rattle.forms.specs.Calls.{hex, binary, decimal, Described, unknown, known}
+use Rattle.forms.specs.Calls.{hex, binary, decimal, bare, Described, unknown, known}
 use Rattle.forms.specs.declared.calls.Family.{Family}
 use Rattle.forms.specs.declared.calls.Family.the-variants.{NoCall, Hex, Binary, Unsigned, Signed, SpacedUnsigned, SpacedSigned, Bare}
 use Rattle.forms.specs.declared.forms.Width.{Width}
-use Rattle.forms.specs.declared.forms.Width.the-variants.{Word}
 use Rattle.forms.specs.declared.size.Number.{Number}
 
 -- the form of a family's calls
@@ -19,7 +18,7 @@ formOf (Unsigned width) = known (decimal false false true width)
 formOf (Signed width) = known (decimal true false true width)
 formOf (SpacedUnsigned width) = known (decimal false true true width)
 formOf (SpacedSigned width) = known (decimal true true true width)
-formOf Bare = known (decimal true false false Word)
+formOf Bare = known bare
 
 -- the number that the low bits of a value stand for
 abbrev pub numberIn : Bool → Width → ℕ → Number
