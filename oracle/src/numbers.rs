@@ -1,11 +1,21 @@
-//! Chapter "Numbers to strings": the conversion calls.
+//! Chapter "Numbers to strings": the conversion calls, &28 as the request about it corrects it.
 
 use crate::refusal::Refusal;
 
 /// Bit 17 of a call number, the X form, makes no difference.
 const X_BIT: u32 = 1 << 17;
 
-/// What a call writes, and how much of the value it uses.
+/// What a call writes: a string, and behind it a zero byte or nothing.
+///
+/// Need is their length together. The offset is the string's length, and all from there on is free:
+/// a zero byte counts as free, and where there is none the byte there stays.
+#[derive(Clone, Copy)]
+struct Call {
+    form: Form,
+    zero_byte: bool,
+}
+
+/// What a string looks like, and how much of the value it shows.
 #[derive(Clone, Copy)]
 enum Form {
     Hex { digits: u32 },
@@ -14,7 +24,7 @@ enum Form {
     Binary { bytes: u32 },
 }
 
-/// A string that found room; the zero byte behind it stands at `offset` and counts as free.
+/// A string that found room; it ends at `offset`.
 #[derive(Debug, PartialEq, Eq)]
 pub struct Written {
     pub string: String,
@@ -30,12 +40,13 @@ pub struct Unwritten {
 }
 
 /// Answers a call: first 14, then 1.
-pub fn convert(call: u32, value: u32, room: usize) -> Result<Written, Unwritten> {
-    let string = string(call, value).ok_or(Unwritten {
+pub fn convert(number: u32, value: u32, room: usize) -> Result<Written, Unwritten> {
+    let call = call(number).ok_or(Unwritten {
         refusal: Refusal::UnknownCall,
         need: 0,
     })?;
-    let need = string.len() + 1;
+    let string = string(call.form, value);
+    let need = string.len() + usize::from(call.zero_byte);
     if need > room {
         return Err(Unwritten {
             refusal: Refusal::NoRoom,
@@ -50,9 +61,8 @@ pub fn convert(call: u32, value: u32, room: usize) -> Result<Written, Unwritten>
     })
 }
 
-/// The string a call writes without its zero byte, or nothing where the call is unknown.
-pub fn string(call: u32, value: u32) -> Option<String> {
-    Some(match form(call)? {
+fn string(form: Form, value: u32) -> String {
+    match form {
         Form::Hex { digits } => {
             let nibbles = low_bits(value, 4 * digits);
             format!("{nibbles:0width$X}", width = digits as usize)
@@ -63,11 +73,23 @@ pub fn string(call: u32, value: u32) -> Option<String> {
         }
         Form::Unsigned { bytes, spaced } => decimal(low_bits(value, 8 * bytes), spaced),
         Form::Signed { bytes, spaced } => decimal(low_signed(value, 8 * bytes), spaced),
-    })
+    }
 }
 
-fn form(call: u32) -> Option<Form> {
-    Some(match call & !X_BIT {
+/// The call of a number, or nothing where there is none.
+fn call(number: u32) -> Option<Call> {
+    let (same_string_as, zero_byte) = match number & !X_BIT {
+        // The offset alone tells the caller where this string ends.
+        0x28 => (0xDC, false),
+        number => (number, true),
+    };
+    let form = form(same_string_as)?;
+    Some(Call { form, zero_byte })
+}
+
+/// The form of each call that has a zero byte.
+fn form(number: u32) -> Option<Form> {
+    Some(match number {
         0xD0 => Form::Hex { digits: 1 },
         0xD1 => Form::Hex { digits: 2 },
         0xD2 => Form::Hex { digits: 4 },
@@ -90,7 +112,6 @@ fn form(call: u32) -> Option<Form> {
             bytes: call - 0xE4,
             spaced: true,
         },
-        0x28 => return form(0xDC),
         _ => return None,
     })
 }
@@ -140,7 +161,15 @@ mod tests {
     const V: u32 = 1_048_576;
 
     fn text(call: u32, value: u32) -> String {
-        string(call, value).expect("a known call")
+        convert(call, value, 100).expect("a string").string
+    }
+
+    fn written(string: &str, free: usize) -> Result<Written, Unwritten> {
+        Ok(Written {
+            string: string.to_owned(),
+            offset: string.len(),
+            free,
+        })
     }
 
     fn refused(call: u32, value: u32, room: usize) -> (u8, usize) {
@@ -150,12 +179,7 @@ mod tests {
 
     #[test]
     fn examples_p1_to_p7() {
-        let p1 = Written {
-            string: "1048576".to_owned(),
-            offset: 7,
-            free: 1,
-        };
-        assert_eq!(convert(0xD8, V, 8), Ok(p1));
+        assert_eq!(convert(0xD8, V, 8), written("1048576", 1));
         assert_eq!(refused(0xD8, V, 7), (1, 8));
         assert_eq!(text(0xE4, V), "1 048 576");
         assert_eq!(refused(0xE4, V, 0), (1, 10));
@@ -167,10 +191,34 @@ mod tests {
     }
 
     #[test]
-    fn every_call_is_refused_without_room() {
+    fn every_other_call_than_28_needs_a_byte_more_than_its_string() {
         for call in 0xD0..=0xE8 {
-            assert_eq!(refused(call, V, 0).0, 1);
-            assert_eq!(refused(call | X_BIT, V, 0).0, 1);
+            for call in [call, call | X_BIT] {
+                let length = text(call, V).len();
+                assert_eq!(refused(call, V, 0), (1, length + 1));
+                assert_eq!(refused(call, V, length), (1, length + 1));
+                assert_eq!(convert(call, V, length + 1), written(&text(call, V), 1));
+            }
+        }
+    }
+
+    #[test]
+    fn call_28_writes_the_string_of_dc_without_a_zero_byte() {
+        for string in [
+            "0", "9", "10", "1048576", "2147483647", "-1", "-1048576", "-2147483648",
+        ] {
+            let value = string.parse::<i32>().expect("a signed number") as u32;
+            let length = string.len();
+            for x in [0, X_BIT] {
+                let (plain, ended) = (0x28 | x, 0xDC | x);
+                assert_eq!(refused(plain, value, 0), (1, length));
+                assert_eq!(refused(plain, value, length - 1), (1, length));
+                assert_eq!(convert(plain, value, length), written(string, 0));
+                assert_eq!(convert(plain, value, length + 1), written(string, 1));
+                assert_eq!(refused(ended, value, length), (1, length + 1));
+                assert_eq!(convert(ended, value, length + 1), written(string, 1));
+                assert_eq!(convert(ended, value, length + 2), written(string, 2));
+            }
         }
     }
 
@@ -196,7 +244,7 @@ mod tests {
     #[test]
     fn only_bit_17_is_ignored_and_14_comes_before_1() {
         assert_eq!(text(0x20028, u32::MAX), "-1");
-        for call in [0xCF, 0xE9, 0x27, 0x29, 0x400D0, 0x8000_00D8] {
+        for call in [0xCF, 0xE9, 0x27, 0x29, 0x128, 0x40028, 0x400D0, 0x8000_00D8] {
             assert_eq!(refused(call, 0, 0), (14, 0));
         }
     }
