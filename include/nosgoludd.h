@@ -30,7 +30,7 @@
 #include <stddef.h>
 #include <stdint.h>
 
-#define NOS_VERSION "1.3.0"       /* each change request raises the second number, other work the third; CHANGES.md has them all */
+#define NOS_VERSION "1.4.0"       /* each change request raises the second number, other work the third; CHANGES.md has them all */
 #define NOS_STACK 49152u          /* the most bytes of stack that a call takes */
 #define NOS_LONGEST 65535u        /* the longest text, format or table that is read, in bytes */
 #define NOS_TIME 5u               /* the bytes of a time */
@@ -136,7 +136,7 @@ struct nos_value {
 
 /* The calls. The number in a name is that of the digits for hex, and of the low bytes that are used for the others. */
 enum nos_call {
-    NOS_DECIMAL = 0x28,
+    NOS_DECIMAL = 0x28, /* NOS_SIGNED_4 without its zero byte */
     NOS_HEX_1 = 0xD0, NOS_HEX_2, NOS_HEX_4, NOS_HEX_6, NOS_HEX_8,
     NOS_UNSIGNED_1 = 0xD5, NOS_UNSIGNED_2, NOS_UNSIGNED_3, NOS_UNSIGNED_4,
     NOS_SIGNED_1 = 0xD9, NOS_SIGNED_2, NOS_SIGNED_3, NOS_SIGNED_4,
@@ -145,7 +145,7 @@ enum nos_call {
     NOS_SPACED_SIGNED_1 = 0xE5, NOS_SPACED_SIGNED_2, NOS_SPACED_SIGNED_3, NOS_SPACED_SIGNED_4
 };
 
-/* Writes a value as a string, with a zero byte after it, to the start of buf.
+/* Writes a value as a string to the start of buf, with a zero byte after it; by &28 without one.
  *
  *   call         string                      uses of the value         of 1048576, widest call   most need
  *   &D0 to &D4   hex, 1, 2, 4, 6, 8 digits   that many low nibbles     00100000                   9
@@ -154,14 +154,15 @@ enum nos_call {
  *   &DD to &E0   binary                      low 1, 2, 3, 4 bytes      00000000000100000000..    33
  *   &E1 to &E4   unsigned decimal, spaced    as &D5 to &D8             1 048 576                 14
  *   &E5 to &E8   signed decimal, spaced      as &D9 to &DC             1 048 576                 15
- *   &28          the same as &DC             4 bytes                   1048576                   12
+ *   &28          as &DC, no zero byte        4 bytes                   1048576                   11
  *
  * Hex and binary keep their leading zeros, and hex letters are capitals. Decimal has no leading zero, and zero is "0".
  * Spaced: one space between groups of three digits counted from the right, none after a minus: -2 147 483 648.
  * Bit 17 of the call (0x20000, the X form) makes no difference; every other number is an unknown call.
  *
- *   accepted   place: the offset of the zero byte in buf. need: the bytes written, the zero byte with them, so one more than the place.
- *              free: room - place, so the zero byte counts as free. Bytes of buf after the zero byte stay as they were
+ *   accepted   place: the number of characters, which is the offset of the zero byte in buf where there is one. need: the bytes
+ *              written, so one more than the place for the zero byte, and by &28 the place itself. free: room - place, so a zero byte
+ *              counts as free, and by &28 it may be 0. Bytes of buf after the need stay as they were
  *   refused    place 0, free: the room, and every byte of buf stays as it was. The first of these that holds:
  *              14 NOS_UNKNOWN_CALL   need 0, at any room
  *               1 NOS_NO_ROOM        the room is less than the need, which is in the answer
@@ -169,6 +170,8 @@ enum nos_call {
  *
  *   nos_convert(NOS_UNSIGNED_4, 1048576, buf, 8)    "1048576", place 7, need 8, free 1
  *   nos_convert(NOS_UNSIGNED_4, 1048576, buf, 7)    refused 1, need 8, free 7, buf as it was
+ *   nos_convert(NOS_DECIMAL, 1048576, buf, 7)       "1048576" and no zero byte, place 7, need 7, free 0
+ *   nos_convert(NOS_DECIMAL, 1048576, buf, 6)       refused 1, need 7, free 6, buf as it was
  *   nos_convert(NOS_SIGNED_1, 128, NULL, 0)         refused 1, need 5: the room for "-128"
  *   nos_convert(NOS_UNSIGNED_1, 1048576, buf, 2)    "0": the low byte alone is used
  */
