@@ -81,8 +81,8 @@ const struct command convert_command = {
     .name = "convert",
     .arguments = "CALL VALUE",
     .summary = "writes a number as a string, by one of the 26 calls",
-    .notes = "Writes the string and a line feed. --room counts the zero byte that the library puts after the string. CALL is a\n"
-             "number, as &D8, or one of these names:\n"
+    .notes = "Writes the string and a line feed. --room counts the zero byte that the library puts after the string; after that\n"
+             "of decimal, &28, it puts none. CALL is a number, as &D8, or one of these names:\n"
              "  decimal   hex1 hex2 hex4 hex6 hex8   unsigned1 to unsigned4   signed1 to signed4   binary1 to binary4\n"
              "  spaced-unsigned1 to spaced-unsigned4   spaced-signed1 to spaced-signed4\n",
     .least = 2,

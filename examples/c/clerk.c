@@ -8,6 +8,8 @@
 
 #include "clerk.h"
 
+#define X_FORM 0x20000u /* the bit of a call that makes no difference */
+
 enum { SHEET = 33 }; /* the most that any call needs */
 
 static uint8_t sheet[2 * MARGIN + SHEET];
@@ -49,16 +51,16 @@ void print_bytes(const uint8_t *bytes, size_t length)
     for (size_t i = 0; i < length; i++) printf(bytes[i] >= 32 && bytes[i] < 127 ? "%c" : "[%d]", bytes[i]);
 }
 
-void check_conversion(struct nos_answer answer, const uint8_t *paper, size_t size, size_t at, size_t room)
+void check_conversion(struct nos_answer answer, size_t zeros, const uint8_t *paper, size_t size, size_t at, size_t room)
 {
     size_t written = 0;
     check(answer.counted == NOS_IN_THE_TEXT, "a conversion has nothing to do with a table");
     if (answer.number == NOS_ACCEPTED) {
         written = answer.need;
         check(written <= room, "no more is written than was lent");
-        check(answer.place + 1 == answer.need, "the need is the place and one more");
-        check(answer.free == room - answer.place, "the zero byte counts as free");
-        check(memchr(paper + at, 0, written) == paper + at + answer.place, "the first zero byte is at the place");
+        check(answer.place + zeros == answer.need, "the need is the place, and one more for a zero byte");
+        check(answer.free == room - answer.place, "a zero byte counts as free");
+        check(memchr(paper + at, 0, written) == (zeros > 0 ? paper + at + answer.place : NULL), "the first zero byte, or none");
     } else {
         check(answer.place == 0 || answer.number == NOS_BAD_FIELD, "a refused conversion has the place 0, but for a bad field");
         check(answer.free == room, "the whole room is free");
@@ -67,12 +69,15 @@ void check_conversion(struct nos_answer answer, const uint8_t *paper, size_t siz
     check_the_rest(paper, size, at, written);
 }
 
+/* How many zero bytes a call writes behind its string. */
+static size_t zeros_of(uint32_t call) { return (call & ~X_FORM) == NOS_DECIMAL ? 0 : 1; }
+
 /* Converts into the part of a paper that starts at `at`. */
 static struct nos_answer convert(uint32_t call, uint32_t value, uint8_t *paper, size_t size, size_t at, size_t room)
 {
     remember(paper, size);
     struct nos_answer answer = nos_convert(call, value, paper + at, room);
-    check_conversion(answer, paper, size, at, room);
+    check_conversion(answer, zeros_of(call), paper, size, at, room);
     return answer;
 }
 
@@ -85,16 +90,17 @@ static struct nos_answer on_a_clean_sheet(uint32_t call, uint32_t value, size_t 
 
 static const char *on_the_sheet(void) { return (const char *)sheet + MARGIN; }
 
-/* Asks with one byte too few, and again with the need that the refusal carries. */
+/* Asks with one byte too few, with more room than it takes, and with the need that the refusal carries. */
 static void ask_twice(uint32_t call, uint32_t value, const char *string)
 {
-    size_t little = strlen(string);
+    size_t length = strlen(string), little = length + zeros_of(call) - 1;
     struct nos_answer refused = on_a_clean_sheet(call, value, little);
     check(refused.number == NOS_NO_ROOM && refused.need == little + 1, "one byte too few is refused, with the need");
-    struct nos_answer answer = on_a_clean_sheet(call, value, refused.need);
-    check(answer.number == NOS_ACCEPTED && strcmp(on_the_sheet(), string) == 0, string);
-    printf("&%02" PRIX32 " of %" PRIu32 ": room %zu, refused %" PRIu32 ", need %zu, no byte changed; room %zu: %s\n", call, value,
-           little, refused.number, refused.need, refused.need, on_the_sheet());
+    struct nos_answer more = on_a_clean_sheet(call, value, SHEET), answer = on_a_clean_sheet(call, value, refused.need);
+    check(answer.number == NOS_ACCEPTED && answer.place == length && memcmp(on_the_sheet(), string, length) == 0, string);
+    check(alike(more, answer), "more room gives the same");
+    printf("&%02" PRIX32 " of %" PRIu32 ": room %zu, refused %" PRIu32 ", need %zu, no byte changed; room %zu: %.*s\n", call, value,
+           little, refused.number, refused.need, refused.need, (int)answer.place, on_the_sheet());
 }
 
 static void conversions(void)
@@ -109,8 +115,20 @@ static void conversions(void)
     ask_twice(NOS_SPACED_UNSIGNED_4, 1048576, "1 048 576");
     ask_twice(NOS_SPACED_SIGNED_4, 2147483648u, "-2 147 483 648");
     ask_twice(NOS_SPACED_SIGNED_4, (uint32_t)-100, "-100");
-    ask_twice(NOS_DECIMAL, (uint32_t)-7, "-7");
-    ask_twice(0x20000 + NOS_UNSIGNED_4, 96, "96");
+    ask_twice(X_FORM + NOS_UNSIGNED_4, 96, "96");
+}
+
+/* The digits of &28, which have no zero byte behind them, beside those of &DC, which do. */
+static void with_and_without_a_zero_byte(void)
+{
+    static const struct { uint32_t value; const char *string; } lines[] = {
+        {0, "0"}, {7, "7"}, {(uint32_t)-7, "-7"}, {1048576, "1048576"}, {2147483647, "2147483647"}, {2147483648u, "-2147483648"},
+    };
+    for (size_t i = 0; i < sizeof lines / sizeof lines[0]; i++) {
+        ask_twice(NOS_DECIMAL, lines[i].value, lines[i].string);
+        ask_twice(X_FORM + NOS_DECIMAL, lines[i].value, lines[i].string);
+        ask_twice(NOS_SIGNED_4, lines[i].value, lines[i].string);
+    }
 }
 
 /* A call that nobody knows is refused so at every room; and no bytes lent is a NULL pointer that no one follows. */
@@ -123,6 +141,9 @@ static void other_refusals(void)
     struct nos_answer asked = nos_convert(NOS_UNSIGNED_4, 1048576, NULL, 0);
     check(asked.number == NOS_NO_ROOM && asked.need == 8, "NULL with room 0 is refused, with the need");
     printf("no buffer: refused %" PRIu32 ", %s, need %zu\n", asked.number, nos_words(asked.number), asked.need);
+    struct nos_answer digit = nos_convert(NOS_DECIMAL, 7, NULL, 0);
+    check(digit.number == NOS_NO_ROOM && digit.need == 1, "the least need that there is, one digit by &28");
+    printf("no buffer for a digit by &28: refused %" PRIu32 ", %s, need %zu\n", digit.number, nos_words(digit.number), digit.need);
     struct nos_number empty = nos_read_unsigned(NULL, 0, 1, NOS_NO_LIMIT);
     check(empty.number == NOS_NO_DIGIT && empty.place == 0, "NULL with length 0 has no digit at 0");
     printf("no text: refused %" PRIu32 " at %zu, %s\n", empty.number, empty.place, nos_words(empty.number));
@@ -162,6 +183,23 @@ static void across_the_page(void)
         check(answer.place + 1 == length[row], "up to its zero byte");
     }
     printf("%d rows read back from the pages\n", ROWS);
+}
+
+/* Digits with no zero byte may fill a page to its last byte: the next page stays as it was. By &DC they do not fit there. */
+static void to_the_end_of_the_page(void)
+{
+    static const char digits[] = "1048576";
+    const size_t left = sizeof digits - 1, at = MARGIN + PAGE - left;
+    fill(diary, sizeof diary);
+    struct nos_answer ended = convert(NOS_SIGNED_4, 1048576, diary, sizeof diary, at, left);
+    check(ended.number == NOS_NO_ROOM && ended.need == left + 1, "&DC has no room for its zero byte");
+    struct nos_answer cut = convert(NOS_DECIMAL, 1048576, diary, sizeof diary, at, left - 1);
+    check(cut.number == NOS_NO_ROOM && cut.need == left, "&28 has no room for its last digit");
+    struct nos_answer answer = convert(NOS_DECIMAL, 1048576, diary, sizeof diary, at, cut.need);
+    check(answer.number == NOS_ACCEPTED && memcmp(diary + at, digits, left) == 0, digits);
+    check(answer.place == left && answer.free == 0, "nothing of the page is left");
+    printf("%zu bytes left on the page: by &DC refused, need %zu; by &28 %.*s, free %zu, and the next page is as it was\n", left,
+           ended.need, (int)answer.place, (const char *)diary + at, answer.free);
 }
 
 /* Every call whose string can be read: what must stand before it, and the bits of the value that it uses. */
@@ -248,8 +286,10 @@ int main(int argc, char **argv)
 {
     if (argc < 2) {
         conversions();
+        with_and_without_a_zero_byte();
         other_refusals();
         across_the_page();
+        to_the_end_of_the_page();
         read_back();
         readings();
         dates();

@@ -22,9 +22,9 @@ void fill(uint8_t *bytes, size_t size);
 void remember(const uint8_t *paper, size_t size);
 void check_the_rest(const uint8_t *paper, size_t size, size_t at, size_t written);
 
-/* Checks what holds of every conversion into the `room` bytes at `at` of a remembered paper: the whole string stands there with its
- * zero byte, or nothing does; and every other byte of the paper is as it was. */
-void check_conversion(struct nos_answer answer, const uint8_t *paper, size_t size, size_t at, size_t room);
+/* Checks what holds of every conversion into the `room` bytes at `at` of a remembered paper: the whole string stands there, with so many
+ * zero bytes behind it, 1 or for &28 none, or nothing does; and every other byte of the paper is as it was. */
+void check_conversion(struct nos_answer answer, size_t zeros, const uint8_t *paper, size_t size, size_t at, size_t room);
 
 /* Prints bytes as they are, and those that do not print as numbers in brackets. */
 void print_bytes(const uint8_t *bytes, size_t length);

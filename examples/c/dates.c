@@ -35,7 +35,7 @@ static struct nos_answer convert(const struct asked *a, uint8_t *paper, size_t s
 {
     remember(paper, size);
     struct nos_answer answer = nos_convert_date(a->time, a->time_length, a->format, a->length, paper + at, room);
-    check_conversion(answer, paper, size, at, room);
+    check_conversion(answer, 1, paper, size, at, room);
     return answer;
 }
 

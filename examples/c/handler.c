@@ -215,9 +215,9 @@ static struct served gs_trans(const struct machine *machine, struct registers *r
 
 /* &28 OS_BinaryToDecimal.
  *   gives   R0 the number, R1 the buffer's address, R2 its size
- *   gets    R2 the number of characters; R0 and R1 stay. The book has no terminator here. The library puts a zero byte behind the
- *           characters and asks for room for it, and that rule counts: R2 leaves it out, the size has to have it in
- *   errors  Buffer overflow 1: the buffer stays as it was; the need, with the zero byte, is in struct served alone
+ *   gets    R2 the number of characters; R0 and R1 stay. Nothing stands behind the characters, so that a size of just their number is
+ *           enough
+ *   errors  Buffer overflow 1: the buffer stays as it was; the need, the number of characters, is in struct served alone
  *           Bad address: the buffer is not all memory */
 static struct served binary_to_decimal(const struct machine *machine, struct registers *registers)
 {

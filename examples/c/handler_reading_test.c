@@ -312,7 +312,7 @@ static void places(void)
     static const struct variable_test at_the_end = FOUND("names at memory's end", 0x23, "farm\r", NULL, 64, 0, "Farm", 0, "Ash");
     static const struct variable_test without = {
         NULL, NULL, 0, 0xAB04, 0, NULL, NULL, 0,
-        {"without a place for names", 0x28, NULL, 0, 96, BUFFER, 64, DONE, 96, BUFFER, 2, 0, "96", BUFFER, 3}};
+        {"without a place for names", 0x28, NULL, 0, 96, BUFFER, 64, DONE, 96, BUFFER, 2, 0, "96", BUFFER, 2}};
     static const uint32_t bad[] = {0, SIZE - NAME_ROOM + 1, SIZE, FAR};
     for (size_t i = 0; i < 4; i++) {
         begin();

@@ -273,15 +273,26 @@ static void gs_trans(void)
     RUN(list);
 }
 
+/* &28 writes characters and nothing behind them; beside it &DC, which has the same ones and a zero byte. */
 static void binary_to_decimal(void)
 {
     static const struct test list[] = {
-        {"-7", 0x28, NULL, 0, (uint32_t)-7, BUFFER, 16, DONE, (uint32_t)-7, BUFFER, 2, 0, "-7", BUFFER, 3},
-        {"the most that is needed", X + 0x28, NULL, 0, BIT_31, BUFFER, 12, DONE, BIT_31, BUFFER, 11, 0, "-2147483648", BUFFER, 12},
-        FAILS("no room for the zero byte", 0x28, NULL, 0, (uint32_t)-7, BUFFER, 2, 1, 3, "Buffer overflow"),
-        FAILS("no buffer", X + 0x28, NULL, 0, 96, BUFFER, 0, 1, 3, "Buffer overflow"),
-        {"into the last bytes of memory", 0x28, NULL, 0, 96, SIZE - 3, 3, DONE, 96, SIZE - 3, 2, 0, "96", SIZE - 3, 3},
-        FAILS("a buffer that ends behind them", 0x28, NULL, 0, 96, SIZE - 3, 4, BAD_ADDRESS, 0, "Bad address"),
+        {"-7", 0x28, NULL, 0, (uint32_t)-7, BUFFER, 16, DONE, (uint32_t)-7, BUFFER, 2, 0, "-7", BUFFER, 2},
+        {"0, one byte", X + 0x28, NULL, 0, 0, BUFFER, 1, DONE, 0, BUFFER, 1, 0, "0", BUFFER, 1},
+        {"just the characters", 0x28, NULL, 0, 1048576, BUFFER, 7, DONE, 1048576, BUFFER, 7, 0, "1048576", BUFFER, 7},
+        FAILS("one byte too few", 0x28, NULL, 0, 1048576, BUFFER, 6, 1, 7, "Buffer overflow"),
+        {"the same and a zero byte", 0xDC, NULL, 0, 1048576, BUFFER, 8, DONE, BUFFER, BUFFER + 7, 1, 0, "1048576", BUFFER, 8},
+        FAILS("no room for the zero byte", X + 0xDC, NULL, 0, 1048576, BUFFER, 7, 1, 8, "Buffer overflow"),
+        {"the most that is needed", X + 0x28, NULL, 0, BIT_31, BUFFER, 11, DONE, BIT_31, BUFFER, 11, 0, "-2147483648", BUFFER, 11},
+        FAILS("one byte less", X + 0x28, NULL, 0, BIT_31, BUFFER, 10, 1, 11, "Buffer overflow"),
+        {"a byte to spare", 0x28, NULL, 0, BIT_31, BUFFER, 12, DONE, BIT_31, BUFFER, 11, 0, "-2147483648", BUFFER, 11},
+        FAILS("no buffer", X + 0x28, NULL, 0, 96, BUFFER, 0, 1, 2, "Buffer overflow"),
+        {"into the last bytes of memory", 0x28, NULL, 0, 96, SIZE - 2, 2, DONE, 96, SIZE - 2, 2, 0, "96", SIZE - 2, 2},
+        {"into the last byte of memory", X + 0x28, NULL, 0, 7, SIZE - 1, 1, DONE, 7, SIZE - 1, 1, 0, "7", SIZE - 1, 1},
+        FAILS("one byte too few there", 0x28, NULL, 0, 96, SIZE - 1, 1, 1, 2, "Buffer overflow"),
+        FAILS("no buffer, at memory's end", X + 0x28, NULL, 0, 7, SIZE, 0, 1, 1, "Buffer overflow"),
+        FAILS("a buffer that ends behind them", 0x28, NULL, 0, 96, SIZE - 2, 3, BAD_ADDRESS, 0, "Bad address"),
+        FAILS("a buffer behind memory", X + 0x28, NULL, 0, 96, SIZE + 1, 0, BAD_ADDRESS, 0, "Bad address"),
         FAILS("a buffer that wraps around", 0x28, NULL, 0, 96, FAR, FAR, BAD_ADDRESS, 0, "Bad address"),
     };
     RUN(list);
@@ -485,7 +496,7 @@ static void hosts(void)
         {"no place for errors", 0x28, NULL, 0, 96, BUFFER, 64, ENDED(NO_BLOCK), 0, 0, 0, 0, NULL, 0, 0},
         {"no place for errors", X + 0x28, NULL, 0, 96, BUFFER, 0, ENDED(NO_BLOCK), 0, 0, 0, 0, NULL, 0, 0},
     };
-    static const struct test at_the_end = FAILS("errors at memory's end", 0x28, NULL, 0, 96, BUFFER, 0, 1, 3, "Buffer overflow");
+    static const struct test at_the_end = FAILS("errors at memory's end", 0x28, NULL, 0, 96, BUFFER, 0, 1, 2, "Buffer overflow");
     struct machine machine = usual;
     machine.allowance = 2;
     run(&machine, spent, 3);

@@ -5,8 +5,8 @@ mod nosgoludd;
 
 use nosgoludd::{
     check_table, convert, convert_date, convert_date_to_vec, evaluate, look_up, read_unsigned, translate, translate_to_vec,
-    Evaluated, Found, Number, Refusal, Table, Tables, Variable, BAR_PLAIN, NO_LIMIT, NO_ROOM, QUOTE_PLAIN, SPACED_UNSIGNED_4,
-    SPACE_ENDS, UNSIGNED_4,
+    Evaluated, Found, Number, Refusal, Table, Tables, Variable, BAR_PLAIN, DECIMAL, NO_LIMIT, NO_ROOM, QUOTE_PLAIN, SIGNED_4,
+    SPACED_UNSIGNED_4, SPACE_ENDS, UNSIGNED_4,
 };
 
 /// Records one behind the other: V, R, kind, name length, value length, name, value. The house has a heading for every farm, and a
@@ -117,6 +117,29 @@ fn numbers() -> Result<(), Refusal> {
     Ok(())
 }
 
+/// DECIMAL, in its X form too, fits as many bytes as it has characters, and the next byte stays; SIGNED_4 takes one more, for its zero
+/// byte.
+fn with_and_without_a_zero_byte() -> Result<(), Refusal> {
+    for call in [DECIMAL, 0x20000 + DECIMAL] {
+        let mut buf = [b'.'; 8];
+        let refusal = convert(call, 1048576, &mut buf[..6]).expect_err("no room for the last digit");
+        assert_eq!(refusal, Refusal { need: 7, ..refused(NO_ROOM, 0) });
+        assert_eq!(&buf, b"........", "a refusal changes no byte");
+        assert_eq!(convert(call, 1048576, &mut buf[..refusal.need])?, "1048576");
+        assert_eq!(&buf, b"1048576.", "the next byte stays");
+        assert_eq!(convert(call, 0x80000000, &mut [b'.'; 11])?, "-2147483648");
+        assert_eq!(convert(call, 0xFFFFFFF9, &mut buf)?, "-7");
+        assert_eq!(&buf, b"-748576.", "where there is more room, too");
+    }
+    let mut buf = [b'.'; 9];
+    let refusal = convert(SIGNED_4, 1048576, &mut buf[..7]).expect_err("no room for the zero byte");
+    assert_eq!(refusal, Refusal { need: 8, ..refused(NO_ROOM, 0) });
+    assert_eq!(convert(SIGNED_4, 1048576, &mut buf[..refusal.need])?, "1048576");
+    assert_eq!(&buf, b"1048576\0.");
+    println!("1048576 by DECIMAL: room for 7; by SIGNED_4, with its zero byte: room for {}", refusal.need);
+    Ok(())
+}
+
 /// The times of three entries by one format: the need goes by the format, so that one ask serves them all.
 fn dates() -> Result<(), Refusal> {
     // hundredths of a second since 1900, the lowest byte first: the first time, the date of the book's example, the last time
@@ -179,6 +202,7 @@ fn main() -> Result<(), Refusal> {
     bad_tables();
     flags()?;
     numbers()?;
+    with_and_without_a_zero_byte()?;
     dates()?;
     variables()?;
     println!("nothing is off");

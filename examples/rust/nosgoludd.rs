@@ -250,7 +250,8 @@ fn accepted(number: u32, counted: u32, place: usize, need: usize) -> Result<(), 
     }
 }
 
-/// Writes a value as a string to the start of `buf`, with a zero byte behind it; the string without that byte.
+/// Writes a value as a string to the start of `buf`, with a zero byte behind it; the string without that byte. [`DECIMAL`] writes no
+/// zero byte, so that its string may fill `buf`, and the next byte stays.
 pub fn convert(call: u32, value: u32, buf: &mut [u8]) -> Result<&str, Refusal> {
     // SAFETY: the pointer and the room are those of one exclusive slice.
     let a = unsafe { c::nos_convert(call, value, buf.as_mut_ptr(), buf.len()) };

@@ -10,6 +10,7 @@ from .trial import Case, accepted, refused
 from .variables import FARM, HOUSE, integer, macro, string, table
 
 VALUE = 1048576
+DECIMAL, X_FORM = 0x28, 0x20000
 PAGE = {"farm": table(*FARM), "house": table(*HOUSE)}
 LETTERS = {"farm": table(string(b"a", b"x")), "house": table(string(b"a", b"y"), macro(b"m", b"<A>|"))}
 SMALL = "translate --farm farm --table house --allowance 2 --room 2"
@@ -41,31 +42,63 @@ VALUES = (0, 7, 128, 999, 1000, 65535, VALUE, 0x80000000, 0x89ABCDEF, 0xFFFFFFFF
 
 
 def calls():
-    """The 26 calls: name, number, and the string of a value."""
-    yield "decimal", 0x28, lambda value: f"{signed(value, 4)}"
+    """The 26 calls: name, number, the string of a value, and how many zero bytes are counted after it."""
+    yield "decimal", DECIMAL, lambda value: f"{signed(value, 4)}", 0
     number = 0xD0
     for family, widths, written in FAMILIES:
         for width in widths:
-            yield f"{family}{width}", number, lambda value, width=width, written=written: written(value, width)
+            yield f"{family}{width}", number, lambda value, width=width, written=written: written(value, width), 1
             number += 1
 
 
 def of_every_call():
-    for name, number, written in calls():
+    for name, number, written, zeros in calls():
         for value in VALUES:
             yield accepted(f"convert {name} {value}", written(value) + "\n")
         value = 0x89ABCDEF
-        need = len(written(value)) + 1
+        need = len(written(value)) + zeros
         yield accepted(f"convert &{number:X} &{value:x}", written(value) + "\n")
-        yield accepted(f"convert --room {need} {number + 0x20000} {value}", written(value) + "\n")
+        yield accepted(f"convert --room {need} {number + X_FORM} {value}", written(value) + "\n")
         yield refused(f"convert --room {need - 1} {name} {value}", no_room(need, need - 1))
+        yield refused(f"convert --room {need - 1} {number + X_FORM} {value}", no_room(need, need - 1))
         yield refused(f"convert --room 0 {number} {value}", no_room(need, 0))
+
+
+def second_ask(call, value, need):
+    """A case: refused without room, and accepted with the room that the refusal says."""
+    def work(trial):
+        ran = trial.holds(f"convert --room 0 {call} {value}", 1, b"", no_room(need, 0))
+        said = re.search(rb"ask again with --room (\d+)\n", ran.err)
+        trial.holds(f"convert --room {said[1].decode()} {call} {value}", 0, f"{value}\n")
+    return Case(f"nos convert {call} {value}, asked twice", work)
+
+
+def of_zero_bytes():
+    """The room of &28, which has no zero byte, at both sides, by every way to name it; and beside it that of &DC."""
+    ways = ((("decimal", DECIMAL, f"&{DECIMAL:X}", f"&{DECIMAL + X_FORM:X}"), 0), (("signed4", "&DC", f"&{0xDC + X_FORM:X}"), 1))
+    for names, zeros in ways:
+        for value in (0, 9, -9, 10, VALUE, -VALUE, 2**31 - 1, -2**31):
+            need = len(str(value)) + zeros
+            for name in names:
+                yield accepted(f"convert --room {need} {name} {value}", f"{value}\n")
+                yield refused(f"convert --room {need - 1} {name} {value}", no_room(need, need - 1))
+    yield refused(f"convert --room 6 decimal {VALUE}", [
+        "refused 1, No room: 7 bytes are needed, and there was room for 6", "ask again with --room 7", "nothing was written",
+    ])
+    yield refused("convert decimal 7 --room 0", [
+        "refused 1, No room: 1 byte is needed, and there was room for 0", "ask again with --room 1", "nothing was written",
+    ])
+    yield accepted(f"convert decimal {VALUE} --room 7 -o out", makes={"out": f"{VALUE}\n"})
+    for call, need in (("decimal", 7), ("&28", 7), ("&20028", 7), ("signed4", 8), ("&200DC", 8)):
+        yield second_ask(call, VALUE, need)
 
 
 def of_numbers():
     """The examples of nos_convert, and P1 to P7."""
     yield accepted(f"convert --room 8 &D8 {VALUE}", "1048576\n")
     yield refused(f"convert --room 7 &D8 {VALUE}", no_room(8, 7))
+    yield accepted(f"convert --room 7 &28 {VALUE}", "1048576\n")
+    yield refused(f"convert --room 6 &28 {VALUE}", no_room(7, 6))
     yield accepted(f"convert &E4 {VALUE}", "1 048 576\n")
     yield refused(f"convert &E4 --room 9 {VALUE}", no_room(10, 9))
     yield accepted(f"convert &D5 {VALUE} --room 2", "0\n")
@@ -238,6 +271,6 @@ def of_help():
 
 
 def cases():
-    for some in (of_every_call, of_numbers, of_dates, of_readings, of_texts, of_flags, of_bytes, of_expressions, of_tables,
-                 of_help):
+    for some in (of_every_call, of_zero_bytes, of_numbers, of_dates, of_readings, of_texts, of_flags, of_bytes, of_expressions,
+                 of_tables, of_help):
         yield from some()

@@ -122,6 +122,8 @@ def of_convert():
         yield Refusal("convert", 14, words(f"convert {call} 5"), UNKNOWN_CALL)
     yield Refusal("convert", 14, words("convert --room 0 0 5"), UNKNOWN_CALL)
     yield Refusal("convert", 1, words("convert --room 7 &D8 1048576"), no_room(8, 7))
+    for call in ("decimal", "&28", "&20028"):
+        yield Refusal("convert", 1, words(f"convert --room 6 {call} 1048576"), no_room(7, 6))
 
 
 def of_read():
