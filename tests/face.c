@@ -16,6 +16,8 @@
 
 #include "nosgoludd.h"
 
+#define X_FORM 0x20000u /* the bit of a call that makes no difference */
+
 enum { AREA = 1 << 20, GUARD = 64, TURNS = 251, MOST_ROOM = AREA - 2 * GUARD };
 
 struct area {
@@ -162,30 +164,31 @@ static bool end_line(bool whole, bool as_said)
     return true;
 }
 
-/* The line of a string with a zero byte behind it; `whole` says whether what was lent to be read still is. */
-static bool end_string(struct nos_answer answer, bool whole)
+/* The line of a string with so many zero bytes behind it, 1 or none; `whole` says whether what was lent to be read still is. */
+static bool end_string(struct nos_answer answer, size_t zeros, bool whole)
 {
     bool as_said = answer.counted == NOS_IN_THE_TEXT;
     if (answer.number != NOS_ACCEPTED) {
         printf("no %" PRIu32 " %zu %zu %zu", answer.number, answer.place, answer.need, answer.free);
         return end_line(whole && is_whole_behind(&buffer, 0), as_said);
     }
-    if (answer.place >= buffer.length) return end_line(false, false);
+    if (answer.place > buffer.length || zeros > buffer.length - answer.place) return end_line(false, false);
     printf("ok ");
     put_hex(buffer.lent, answer.place);
     printf(" %zu %zu", answer.place, answer.free);
-    as_said = as_said && buffer.lent[answer.place] == 0 && answer.need == answer.place + 1;
-    return end_line(whole && is_whole_behind(&buffer, answer.place + 1), as_said);
+    as_said = as_said && (zeros == 0 || buffer.lent[answer.place] == 0) && answer.need == answer.place + zeros;
+    return end_line(whole && is_whole_behind(&buffer, answer.place + zeros), as_said);
 }
 
 /* Each operation writes the line of answer, or answers false for a line that is no case. */
 
+/* The case's call, and no answer of the library, tells whether a zero byte has to stand behind the string. */
 static bool conv(struct line line)
 {
     uint32_t call = take_number(&line), value = take_number(&line), room = take_number(&line);
     if (!is_done(&line) || room > MOST_ROOM) return false;
     lend(&buffer, room);
-    return end_string(nos_convert(call, value, lent_by(&buffer), room), true);
+    return end_string(nos_convert(call, value, lent_by(&buffer), room), (call & ~X_FORM) == NOS_DECIMAL ? 0 : 1, true);
 }
 
 static bool date(struct line line)
@@ -196,7 +199,7 @@ static bool date(struct line line)
     if (!is_done(&line) || room > MOST_ROOM) return false;
     lend(&buffer, room);
     struct nos_answer answer = nos_convert_date(lent_by(&moment), moment.length, lent_by(&text), text.length, lent_by(&buffer), room);
-    return end_string(answer, is_whole(&moment) && is_whole(&text));
+    return end_string(answer, 1, is_whole(&moment) && is_whole(&text));
 }
 
 static bool read_number(struct line line)

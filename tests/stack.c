@@ -59,6 +59,8 @@ static void conversions(void)
 {
     for (uint32_t call = NOS_HEX_1; call <= NOS_SPACED_SIGNED_4; call++) expect(nos_convert(call, 1u << 31, out, 64).number, 0);
     expect(nos_convert(NOS_BINARY_4, 0, out, 32).number, NOS_NO_ROOM);
+    expect(nos_convert(NOS_DECIMAL, 1u << 31, out, 11).number, 0);
+    expect(nos_convert(NOS_DECIMAL, 1u << 31, out, 10).number, NOS_NO_ROOM);
 }
 
 static void dates(void)
