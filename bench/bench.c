@@ -30,8 +30,18 @@ static const struct calls before = {
     before_nos_evaluate, before_nos_convert_date,
 };
 static const struct calls *const sets[] = {&proved, &plain_by_clang, &plain_by_gcc, &before};
+
+/* Up to 1.3.0 the library had a zero byte behind the digits of &28: a digit did not fit one byte. */
+static void choose_decimal_call(void)
+{
+    uint8_t digit;
+    if (before_nos_convert(NOS_DECIMAL, 7, &digit, 1).number == NOS_ACCEPTED) return;
+    decimal_call = NOS_SIGNED_4;
+    fprintf(stderr, "bench: the library before has a zero byte behind the digits of &28: &DC is compared and timed in its place\n");
+}
 #else
 static const struct calls *const sets[] = {&proved, &plain_by_clang, &plain_by_gcc};
+static void choose_decimal_call(void) {}
 #endif
 enum { PROVED, CLANG, GCC, BEFORE, SETS = sizeof sets / sizeof *sets, RIVAL = SETS, SIDES = SETS + 1 };
 
@@ -214,6 +224,7 @@ static void make(const struct work *w)
 /* With a word, only the works whose names have it. */
 int main(int argc, char **argv)
 {
+    choose_decimal_call();
     for (size_t i = 0; i < work_count; i++) {
         if (argc > 1 && !strstr(works[i].name, argv[1])) continue;
         make(&works[i]);

@@ -10,7 +10,7 @@ enum { CHANGES = 400, WINDOW = 240, LENT = 4096, TOO_LONG = NOS_LONGEST + 1, LON
 
 struct asked {
     uint8_t text[TOO_LONG], house[TOO_LONG], farm[TOO_LONG], name[LONGEST_NAME], time[2 * TIME_LENGTH];
-    size_t length, house_length, farm_length, name_length, time_length, room;
+    size_t length, house_length, farm_length, name_length, time_length, room, number_room;
     uint32_t call, value, whole, limit, flags, allowance;
 };
 
@@ -93,9 +93,12 @@ static void change(struct asked *a, const struct input *in)
     choose_name(a);
     choose_time(a, in);
     a->room = chance(2) ? chance(64) : LENT;
-    a->call = chance(2) ? chance(30) + 0xCE : 0x28;
+    a->number_room = chance(2) ? chance(14) : a->room; /* often about what a number takes, with its zero byte or without one */
+    a->call = chance(2) ? chance(30) + 0xCE : decimal_call;
     a->call |= chance(8) == 0 ? 1u << chance(32) : 0;
+    a->call |= chance(4) == 0 ? 0x20000u : 0;
     a->value = chance(UINT32_MAX) >> chance(32);
+    if (chance(4) == 0) a->value = 0 - a->value;
     a->whole = chance(2);
     a->limit = chance(2) ? NOS_NO_LIMIT : chance(70000);
     a->flags = chance(2) ? 0 : chance(8) << 29;
@@ -115,7 +118,7 @@ struct answers {
 static void ask(const struct calls *c, const struct asked *a, struct answers *to)
 {
     memset(to->left, 0xEE, sizeof to->left);
-    to->converted = c->convert(a->call, a->value, to->left, a->room);
+    to->converted = c->convert(a->call, a->value, to->left, a->number_room);
     to->read = c->read_unsigned(a->text, a->length, a->whole, a->limit);
     to->checked_farm = c->check_table(a->farm, a->farm_length);
     to->checked_house = c->check_table(a->house, a->house_length);
@@ -174,7 +177,8 @@ void check_changed(const struct work *w, struct input *in, const struct calls *c
             const char *what = difference(&first, &other);
             if (!what) continue;
             fprintf(stderr, "%s: %s and %s differ in %s over a changed input:\n", w->name, sets[0]->name, sets[s]->name, what);
-            fprintf(stderr, "  call %x value %x room %zu flags %x allowance %u\n", a.call, a.value, a.room, a.flags, a.allowance);
+            fprintf(stderr, "  call %x value %x room %zu, else %zu; flags %x allowance %u\n", a.call, a.value, a.number_room, a.room,
+                    a.flags, a.allowance);
             fprintf(stderr, "  a time of %zu bytes, from the first %02x %02x %02x %02x %02x\n", a.time_length, a.time[0], a.time[1],
                     a.time[2], a.time[3], a.time[4]);
             fprintf(stderr, "  a farm's table of %zu bytes, a house table of %zu, name %.*s, text %.*s\n", a.farm_length,

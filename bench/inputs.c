@@ -45,6 +45,8 @@ static void add_words(struct input *in, size_t length)
 
 /* ---- Numbers. */
 
+uint32_t decimal_call = NOS_DECIMAL;
+
 static uint64_t run_convert(const struct calls *c, struct input *in)
 {
     uint64_t sum = 0;
@@ -68,14 +70,15 @@ static void make_calls(struct input *in, const uint8_t *calls, size_t count, uns
 
 static void make_all_calls(struct input *in, unsigned scale)
 {
-    uint8_t calls[26] = {NOS_DECIMAL};
+    uint8_t calls[26] = {(uint8_t)decimal_call};
     for (unsigned i = 1; i < 26; i++) calls[i] = (uint8_t)(NOS_HEX_1 + i - 1);
     make_calls(in, calls, 26, scale);
 }
 
+/* Those that snprintf does too. It always writes a zero byte, so &DC stands here twice, the second time for &28, which has none. */
 static void make_printed_calls(struct input *in, unsigned scale)
 {
-    uint8_t calls[14] = {NOS_DECIMAL};
+    uint8_t calls[14] = {NOS_SIGNED_4};
     for (unsigned i = 1; i < 14; i++) calls[i] = (uint8_t)(NOS_HEX_1 + i - 1);
     make_calls(in, calls, 14, scale);
 }

@@ -46,6 +46,10 @@ struct work {
 extern const struct work works[];
 extern const size_t work_count;
 
+/* The call that the inputs have for &28: that one, or &DC where a side is a library that still has a zero byte behind its digits. &DC
+ * has the same digits and a zero byte on every side. */
+extern uint32_t decimal_call;
+
 /* The same numbers in every run. */
 void restart(void);
 uint32_t chance(uint32_t below);

@@ -74,22 +74,28 @@ static struct nos_answer refused_conversion(unsigned number, size_t need, size_t
     return (struct nos_answer){.number = number, .need = need, .free = room};
 }
 
+/* &28 has the string of &DC, and no zero byte behind it. For the others that byte stands ready there, so that one copy takes both. */
 static struct nos_answer convert(uint32_t call, uint32_t value, uint8_t *buf, size_t room)
 {
     static const uint8_t hex_digits[] = {1, 2, 4, 6, 8};
-    uint8_t string[40], *end = string + sizeof string;
-    size_t length;
+    uint8_t string[41], *end = string + sizeof string - 1;
+    size_t length, need;
+    bool ended = true;
+    *end = 0;
     call &= ~0x20000u;
-    if (call == NOS_DECIMAL) call = NOS_SIGNED_4;
+    if (call == NOS_DECIMAL) {
+        call = NOS_SIGNED_4;
+        ended = false;
+    }
     if (call < NOS_HEX_1 || call > NOS_SPACED_SIGNED_4) return refused_conversion(NOS_UNKNOWN_CALL, 0, room);
     if (call <= NOS_HEX_8)
         length = put_fixed(end, value, hex_digits[call - NOS_HEX_1], 4);
     else
         length = put_by_bytes(end, call, value);
-    if (room <= length) return refused_conversion(NOS_NO_ROOM, length + 1, room);
-    memcpy(buf, end - length, length);
-    buf[length] = 0;
-    return (struct nos_answer){.place = length, .need = length + 1, .free = room - length};
+    need = length + ended;
+    if (room < need) return refused_conversion(NOS_NO_ROOM, need, room);
+    memcpy(buf, end - length, need);
+    return (struct nos_answer){.place = length, .need = need, .free = room - length};
 }
 
 /* ---- The unsigned reader. */
