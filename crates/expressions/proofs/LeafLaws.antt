@@ -11,7 +11,7 @@ use Rattle.records.specs.declared.kinds.Kind.{Kind}
 use Rattle.records.specs.declared.kinds.Kind.the-variants.{Text, Integer, Macro}
 use Rattle.records.proofs.Whole.{own-value}
 use Rattle.variables.specs.Holdings.{heldBy, Holding, nowhere, held, soughtInBoth}
-use Rattle.variables.specs.Lookups.{partOf as valueIn}
+use Rattle.variables.specs.Holdings.{partOf as valueIn}
 use Rattle.variables.specs.Names.{Meaning, valueAs, meant, inReading, namesOf}
 use Rattle.variables.specs.inner.Keys.{Keys, matchAs}
 use Rattle.variables.proofs.KeysFind.{sought-by-keys}

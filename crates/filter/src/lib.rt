@@ -10,6 +10,7 @@ use gs::Translated;
 use libc::STDERR_FILENO;
 use libc::STDIN_FILENO;
 use libc::STDOUT_FILENO;
+use paper::BAD_INDEX;
 use symbols::flags::Flags;
 
 // How many bytes the text has that was read, and how many its answer.
@@ -18,14 +19,23 @@ pub struct Lengths {
     pub answer: usize,
 }
 
-// The answer to a text, at the start of `out`: its translation, or the line of its refusal. Both tables are empty, no flag is set, and
-// no look-up is allowed. What stands behind the answer stays.
+// The answer to a text, at the start of `out`: its translation, or the line of its refusal. Both tables are empty, there is no index, no
+// flag is set, and no look-up is allowed. What stands behind the answer stays.
 pub fn answer(text: &[u8], out: &mut [u8; 65535]) -> usize
     ensures length { λ r. ⌜ r ≡ length (answerTo (now (text .entry))) ⌝ }
     ensures buffer { λ r. ⌜ now (out .exit) ≡ answerTo (now (text .entry)) ++ drop r (now (out .entry)) ⌝ }
 {
     let no_table = &text[0..0];
-    let translated = gs::translate(text, no_table, no_table, Flags::none(), 0, out);
+    let translated = gs::translate(
+        text,
+        no_table,
+        no_table,
+        no_table,
+        false,
+        Flags::none(),
+        0,
+        out,
+    );
     match translated {
         Translated::Written {
             end: _,
@@ -44,6 +54,7 @@ pub fn answer(text: &[u8], out: &mut [u8; 65535]) -> usize
             at: record,
             free: _,
         } => lines::refusal(number, record.0, out),
+        Translated::BadIndex { free: _ } => lines::refusal(BAD_INDEX, 0, out),
     }
 }
 

@@ -8,7 +8,7 @@ use Rattle.paper.specs.Traces.{asks, spends, bytes, run, onward}
 use Rattle.records.specs.Kinds.{pattern}
 use Rattle.variables.specs.Names.{Meaning}
 use Rattle.forms.specs.Calls.{decimalOf}
-use Rattle.variables.specs.Lookups.{partOf}
+use Rattle.variables.specs.Holdings.{partOf}
 use Rattle.gs.specs.Readings.{Expand, givesAll, wholeText, expands}
 use Rattle.gs.specs.inner.Steps.{Laid, Came, came-going, came-refused, Read, read-ended, read-refused, pieceOf, progressOf}
 use Rattle.references.specs.declared.Referred.{Referred}

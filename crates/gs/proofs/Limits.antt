@@ -1,13 +1,13 @@
 -- How far the numbers of a translation go: every look-up gives 255 bytes at the most, where a table's bytes are bytes.
 use mathlib.Core.Path.{_≡_, refl, ap, subst}
-use mathlib.Core.Bool.{true, false}
+use mathlib.Core.Bool.{Bool, true, false}
 use mathlib.Core.List.{List, [], _∷_, List·Memᴰ, Memᴰ·append-left}
 use Prim.Native.Nat.{ℕ, zero, suc, _+_, _-_, _*_, _%_, _≤_}
 use native.Mathlib.Omega.{arith}
 use lib.Dec.{ltb, eqb}
 use lib.ListN.{length, take, drop, length-append, length-take}
 use Rattle.paper.specs.Answers.{Answer}
-use Rattle.paper.specs.Refusals.{no-room, too-big, allowance-spent, over-length, longest}
+use Rattle.paper.specs.Refusals.{no-room, too-big, allowance-spent, over-length, longest, bad-index}
 use Rattle.paper.specs.Traces.{Reference, Trace, ended, faults, gives, asks, spends, enters, bytes, Run, finished, refused, run, runPlace, fit, Ending, done, faulted, beyond, ending, reached, lookUps, allowed}
 use Rattle.paper.specs.declared.faults.Fault.{Fault}
 use Rattle.paper.proofs.Choice.{clash, either}
@@ -21,6 +21,7 @@ use Rattle.forms.specs.Calls.{decimalOf}
 use Rattle.forms.specs.declared.forms.Width.the-variants.{Word}
 use Rattle.numbers.proofs.Bounds.{decimal-short}
 use Rattle.symbols.specs.Symbols.{symbolAt, firstAt, modeOf}
+use Rattle.indexes.specs.Indexes.{Given, fits}
 use Rattle.gs.specs.Readings.{givesAll, deepest, Expand, nameGives, contentGives, symbolGives, symbolsFrom, wholeText, expands}
 use Rattle.gs.specs.Translations.{readingOf, translatedBy, translatedOver, translated, translatedAnswer, metNumbers, translateNumbers}
 use Rattle.gs.specs.declared.Translated.{Translated}
@@ -189,16 +190,17 @@ module _ (text farm house : List ℕ) (flags allowance room : ℕ) where
       either (λ a. Numbered (translatedBy a)) (ltb room (length (bytes reads))) (λ _. member no-room translateNumbers refl) (λ _. member 0 translateNumbers refl)
   listed-by (refused number place) l = either Numbered (eqb number 0) (λ _. member 0 translateNumbers refl) (λ _. l)
 
-  listed-over : (d : Judged) → Within d → Numbered (translatedOver (judgedBy d) reads allowance room)
-  listed-over (AllGood count) b =
+  listed-over : (d : Judged) (fit : Bool) → Within d → Numbered (translatedOver (judgedBy d) fit reads allowance room)
+  listed-over (AllGood count) false b = member bad-index translateNumbers refl
+  listed-over (AllGood count) true b =
       listed-by (run reads (allowed allowance))
       (run-listed translateNumbers (member allowance-spent translateNumbers refl) (read-met (namesOf farm house) 0 text flags .listed) (allowed allowance))
-  listed-over (OneBad number holder at) b = Memᴰ·append-left metNumbers (b .2)
+  listed-over (OneBad number holder at) fit b = Memᴰ·append-left (bad-index ∷ metNumbers) (b .2)
 
-  pub translated-listed : List·Memᴰ (translatedAnswer (translated text farm house flags allowance room) .number) translateNumbers
-  translated-listed =
-      in-order text farm house flags allowance room Numbered (member over-length translateNumbers refl)
-      (λ _. listed-over (judged farm house) (judged-within farm house))
+  pub translated-listed : (given : Given) → List·Memᴰ (translatedAnswer (translated text farm house given flags allowance room) .number) translateNumbers
+  translated-listed given =
+      in-order text farm house given flags allowance room Numbered (member over-length translateNumbers refl)
+      (λ _. listed-over (judged farm house) (fits given house) (judged-within farm house))
 
 -- how far the numbers of an answer go
 pub record Limited (a : Answer) : Type 0 where
@@ -232,12 +234,14 @@ module _ (text farm house : List ℕ) (flags allowance room : ℕ) (bs : AllByte
       (λ _. record { number = omega arith; place = omega arith; need = omega arith })
       (λ _. record { number = omega arith; place = omega arith; need = omega arith })
 
-  limited-over : (d : Judged) → Within d → length text ≤ longest → Limited (translatedAnswer (translatedOver (judgedBy d) t allowance room))
-  limited-over (AllGood count) b h = limited-by (run t (allowed allowance)) h refl
-  limited-over (OneBad number holder at) b h = record { number = b .0; place = b .1; need = omega arith }
+  limited-over :
+      (d : Judged) (fit : Bool) → Within d → length text ≤ longest → Limited (translatedAnswer (translatedOver (judgedBy d) fit t allowance room))
+  limited-over (AllGood count) true b h = limited-by (run t (allowed allowance)) h refl
+  limited-over (AllGood count) false b h = record { number = omega arith; place = omega arith; need = omega arith }
+  limited-over (OneBad number holder at) fit b h = record { number = b .0; place = b .1; need = omega arith }
 
-  pub translated-limited : Limited (translatedAnswer (translated text farm house flags allowance room))
-  translated-limited =
-      in-order text farm house flags allowance room (λ r. Limited (translatedAnswer r))
+  pub translated-limited : (given : Given) → Limited (translatedAnswer (translated text farm house given flags allowance room))
+  translated-limited given =
+      in-order text farm house given flags allowance room (λ r. Limited (translatedAnswer r))
       (record { number = omega arith; place = omega arith; need = omega arith })
-      (limited-over (judged farm house) (judged-within farm house))
+      (limited-over (judged farm house) (fits given house) (judged-within farm house))

@@ -21,8 +21,7 @@ use Rattle.records.specs.declared.Variable.{Variable}
 use Rattle.records.specs.declared.kinds.Kind.{Kind}
 use Rattle.records.specs.declared.kinds.Kind.the-variants.{Text, Integer, Macro}
 use Rattle.records.proofs.Whole.{own-value}
-use Rattle.variables.specs.Holdings.{heldBy, Holding, nowhere, held, soughtInBoth}
-use Rattle.variables.specs.Lookups.{partOf}
+use Rattle.variables.specs.Holdings.{heldBy, Holding, nowhere, held, soughtInBoth, partOf}
 use Rattle.variables.specs.Names.{valueAs, meant, inReading, namesOf}
 use Rattle.variables.specs.inner.Keys.{matchAs}
 use Rattle.variables.proofs.Bounds.{AllBytes}

@@ -3,7 +3,7 @@ ghost use mathlib.Core.Path.{_≡_};
 ghost use mathlib.Core.List.{List};
 ghost use Prim.Native.Nat.{ℕ, _+_, _*_, _≤_, _^_};
 ghost use lib.ListN.{length};
-ghost use Rattle.variables.specs.inner.Keys.{Keys};
+ghost use Rattle.lookups.specs.inner.Through.{Leads};
 ghost use Rattle.variables.specs.Names.{namesOf};
 ghost use Rattle.gs.specs.Readings.{wholeText, expands};
 ghost use Rattle.gs.specs.inner.Steps.{Came, Read, pieceOf, lengthIn, progressOf};
@@ -53,12 +53,13 @@ fn follow<'a>(
     farm: &'a [u8],
     house: &'a [u8],
     keys: &[u32],
+    index: &[u8],
     levels: u8,
     carried: Carried,
     place: usize,
     out: &mut [u8],
 ) -> Progress
-    requires { ⌜ (carried .to + 255 * carried .left + 255 ≤ 2 ^ 40) × (lengthIn referred ≤ 255) × Keys (now farm) (now house) (now keys) ⌝ }
+    requires { ⌜ (carried .to + 255 * carried .left + 255 ≤ 2 ^ 40) × (lengthIn referred ≤ 255) × Leads (now farm) (now house) (now keys) (now index) ⌝ }
     ensures { λ r. ⌜ ((name : List ℕ) → Came (pieceOf (now (farm .entry)) (now (house .entry)) (expands (namesOf (now (farm .entry)) (now (house .entry))) levels) referred name place) (carried .left) (carried .to) (now (out .entry)) (now (out .exit)) r) ⌝ }
 {
     match referred {
@@ -92,6 +93,7 @@ fn follow<'a>(
                     farm,
                     house,
                     keys,
+                    index,
                     Flags::none(),
                     levels - 1,
                     Carried {
@@ -123,12 +125,13 @@ pub(crate) fn expand<'a>(
     farm: &'a [u8],
     house: &'a [u8],
     keys: &[u32],
+    index: &[u8],
     flags: Flags,
     levels: u8,
     carried: Carried,
     out: &mut [u8],
 ) -> Expanded
-    requires { ⌜ (length (now text) ≤ 65535) × (carried .to + length (now text) + 255 * carried .left + 255 ≤ 2 ^ 40) × Keys (now farm) (now house) (now keys) ⌝ }
+    requires { ⌜ (length (now text) ≤ 65535) × (carried .to + length (now text) + 255 * carried .left + 255 ≤ 2 ^ 40) × Leads (now farm) (now house) (now keys) (now index) ⌝ }
     ensures { λ r. ⌜ Read (wholeText (namesOf (now (farm .entry)) (now (house .entry))) (expands (namesOf (now (farm .entry)) (now (house .entry))) levels) (now (text .entry)) (flags .0)) (length (now (text .entry))) (carried .left) (carried .to) (now (out .entry)) (now (out .exit)) r ⌝ }
 {
     let first = open(text, flags);
@@ -159,12 +162,13 @@ pub(crate) fn expand<'a>(
                 here = next;
             }
             Symbol::Reference { start, end, next } => {
-                let referred = resolve(&text[start..end], farm, house, keys);
+                let referred = resolve(&text[start..end], farm, house, keys, index);
                 let came = follow(
                     referred,
                     farm,
                     house,
                     keys,
+                    index,
                     levels,
                     Carried {
                         to: far,

@@ -3,13 +3,17 @@ ghost use mathlib.Core.Path.{_≡_};
 ghost use Prim.Native.Nat.{_≤_};
 ghost use lib.ListN.{length};
 ghost use Rattle.paper.specs.Traces.{bytes, answer};
-ghost use Rattle.variables.specs.inner.Keys.{Keys};
+ghost use Rattle.indexes.specs.Indexes.{givenBy};
+ghost use Rattle.lookups.specs.inner.Through.{Leads};
 ghost use Rattle.gs.specs.Translations.{readingOf, refusedAt, translatedBy, leftBy, translated, outAfter};
 
 mod expansion;
 pub mod steps;
 mod values;
 
+use lookups::Judged;
+use lookups::bytes_given;
+use lookups::judge;
 use paper::Holder;
 use paper::LONGEST;
 use paper::NO_ROOM;
@@ -21,7 +25,6 @@ use steps::Carried;
 use steps::Expanded;
 use symbols::flags::Flags;
 use variables::both;
-use variables::both::Judged;
 
 // What a translation answers.
 pub enum Translated {
@@ -42,6 +45,10 @@ pub enum Translated {
         number: u8,
         holder: Holder,
         at: RecordPlace,
+        free: usize,
+    },
+    // The index is not the house table's.
+    BadIndex {
         free: usize,
     },
 }
@@ -66,11 +73,12 @@ fn fill<'a>(
     farm: &'a [u8],
     house: &'a [u8],
     keys: &[u32],
+    index: &[u8],
     flags: Flags,
     left: u32,
     out: &mut [u8],
 ) -> Translated
-    requires { ⌜ (length (now text) ≤ 65535) × (left ≤ 1024) × Keys (now farm) (now house) (now keys) ⌝ }
+    requires { ⌜ (length (now text) ≤ 65535) × (left ≤ 1024) × Leads (now farm) (now house) (now keys) (now index) ⌝ }
     ensures answer { λ r. ⌜ r ≡ translatedBy (answer (readingOf (now (text .entry)) (now (farm .entry)) (now (house .entry)) (flags .0)) left (length (now (out .entry)))) ⌝ }
     ensures buffer { λ r. ⌜ now (out .exit) ≡ leftBy r (bytes (readingOf (now (text .entry)) (now (farm .entry)) (now (house .entry)) (flags .0))) (now (out .entry)) ⌝ }
 {
@@ -81,6 +89,7 @@ fn fill<'a>(
         farm,
         house,
         keys,
+        index,
         flags,
         LEVELS,
         begun,
@@ -93,7 +102,7 @@ fn fill<'a>(
             if room < need {
                 return refused(NO_ROOM, 0, need, room);
             }
-            expansion::expand(text, farm, house, keys, flags, LEVELS, begun, out);
+            expansion::expand(text, farm, house, keys, index, flags, LEVELS, begun, out);
             Translated::Written {
                 end: TextPlace(end),
                 need,
@@ -103,24 +112,27 @@ fn fill<'a>(
     }
 }
 
-// A text with the references that the variables of the farm's table and the house's resolve, at the start of `out`: whole, or not at all.
+// A text with the references that the variables of the farm's table and the house's resolve, through an index beside the house's where one is
+// given, at the start of `out`: whole, or not at all.
 pub fn translate<'a>(
     text: &[u8],
     farm: &'a [u8],
     house: &'a [u8],
+    index: &[u8],
+    indexed: bool,
     flags: Flags,
     allowance: u32,
     out: &mut [u8],
 ) -> Translated
-    ensures answer { λ r. ⌜ r ≡ translated (now (text .entry)) (now (farm .entry)) (now (house .entry)) (flags .0) allowance (length (now (out .entry))) ⌝ }
-    ensures buffer { λ r. ⌜ now (out .exit) ≡ outAfter (now (text .entry)) (now (farm .entry)) (now (house .entry)) (flags .0) allowance (now (out .entry)) ⌝ }
+    ensures answer { λ r. ⌜ r ≡ translated (now (text .entry)) (now (farm .entry)) (now (house .entry)) (givenBy indexed (now (index .entry))) (flags .0) allowance (length (now (out .entry))) ⌝ }
+    ensures buffer { λ r. ⌜ now (out .exit) ≡ outAfter (now (text .entry)) (now (farm .entry)) (now (house .entry)) (givenBy indexed (now (index .entry))) (flags .0) allowance (now (out .entry)) ⌝ }
 {
     let room = out.len();
     if LONGEST < text.len() {
         return refused(OVER_LENGTH, 0, 0, room);
     }
     let mut keys = both::NO_KEYS;
-    let judged = both::key_tables(farm, house, &mut keys);
+    let judged = judge(farm, house, index, indexed, &mut keys);
     let lines: &[u32] = &keys;
     match judged {
         Judged::BadTable { number, holder, at } => Translated::BadTable {
@@ -129,11 +141,13 @@ pub fn translate<'a>(
             at,
             free: room,
         },
+        Judged::BadIndex => Translated::BadIndex { free: room },
         Judged::Good(count) => fill(
             text,
             farm,
             house,
             &lines[0..count],
+            bytes_given(index, indexed),
             flags,
             cap(allowance),
             out,

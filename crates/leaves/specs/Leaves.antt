@@ -7,7 +7,7 @@ use Rattle.paper.specs.Refusals.{unknown-name, not-an-integer, allowance-spent}
 use Rattle.records.specs.Kinds.{pattern}
 use Rattle.records.specs.declared.kinds.Kind.{Kind}
 use Rattle.records.specs.declared.kinds.Kind.the-variants.{Text, Integer, Macro}
-use Rattle.variables.specs.Lookups.{partOf}
+use Rattle.variables.specs.Holdings.{partOf}
 use Rattle.variables.specs.inner.Keys.{soughtBy, matchAs}
 use Rattle.variables.specs.declared.Match.{Match}
 use Rattle.variables.specs.declared.Match.the-variants.{Record, Missing}

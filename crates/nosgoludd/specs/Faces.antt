@@ -3,15 +3,15 @@ use Rattle.paper.specs.Answers.{Answer}
 use Rattle.reader.specs.Reading.{readNumber, readValue, readPlace}
 use Rattle.reader.specs.declared.Reading.{Reading}
 use Rattle.variables.specs.Tables.{checkNumber, checkCount, checkPlace}
-use Rattle.variables.specs.Lookups.{foundNumber, foundCounted, foundPlace, foundKind, foundLength, foundStart}
+use Rattle.lookups.specs.Lookups.{foundNumber, foundCounted, foundPlace, foundKind, foundLength, foundStart}
 use Rattle.variables.specs.declared.Checked.{Checked}
-use Rattle.variables.specs.declared.both.Found.{Found}
+use Rattle.lookups.specs.declared.Found.{Found}
 use Rattle.expressions.specs.Answers.{evaluatedNumber, evaluatedCounted, evaluatedPlace, evaluatedValue}
 use Rattle.expressions.specs.declared.Evaluated.{Evaluated}
 use Rattle.nosgoludd.specs.declared.NosAnswer.{NosAnswer}
 use Rattle.nosgoludd.specs.declared.readings.NosNumber.{NosNumber}
 use Rattle.nosgoludd.specs.declared.checks.NosChecked.{NosChecked}
-use Rattle.nosgoludd.specs.declared.lookups.NosVariable.{NosVariable}
+use Rattle.nosgoludd.specs.declared.meanings.NosVariable.{NosVariable}
 use Rattle.nosgoludd.specs.declared.evaluations.NosValue.{NosValue}
 
 abbrev pub answerFace : Answer → NosAnswer

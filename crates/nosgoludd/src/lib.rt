@@ -3,10 +3,11 @@
 ghost use mathlib.Core.Path.{_≡_};
 ghost use Rattle.paper.specs.Answers.{countedIn};
 
+pub mod buildings;
 pub mod checks;
 pub mod conversions;
 pub mod evaluations;
-pub mod lookups;
+pub mod meanings;
 mod patterns;
 pub mod readings;
 pub mod translations;
@@ -16,9 +17,11 @@ use paper::Holder;
 // What a place is counted in.
 pub(crate) const IN_THE_TEXT: u32 = 0;
 
-const IN_THE_HOUSE: u32 = 1;
+pub(crate) const IN_THE_HOUSE: u32 = 1;
 
 const IN_THE_FARM: u32 = 2;
+
+pub(crate) const IN_THE_INDEX: u32 = 3;
 
 // What a place in one of the tables is counted in.
 pub(crate) fn counted_in(holder: Holder) -> u32

@@ -6,7 +6,7 @@ use lib.ListN.{take, drop}
 use Rattle.paper.specs.declared.Holder.{Holder}
 use Rattle.paper.specs.declared.Holder.the-variants.{Farm, House}
 
--- what a place is counted in: the text, the house's table or the farm's. The offset that a conversion gives is one in the lent buffer, and
+-- what a place is counted in: the text, the house's table, the farm's, or the index. The offset that a conversion gives is one in the lent buffer, and
 -- is counted as a text's
 abbrev pub in-text : ℕ
 in-text = 0
@@ -16,6 +16,9 @@ in-house = 1
 
 abbrev pub in-farm : ℕ
 in-farm = 2
+
+abbrev pub in-index : ℕ
+in-index = 3
 
 abbrev pub countedIn : Holder → ℕ
 countedIn Farm = in-farm

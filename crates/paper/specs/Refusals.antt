@@ -62,6 +62,9 @@ over-length = 18
 abbrev pub bad-field : ℕ
 bad-field = 19
 
+abbrev pub bad-index : ℕ
+bad-index = 20
+
 -- in bytes
 abbrev pub longest : ℕ
 longest = 65535

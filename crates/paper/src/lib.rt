@@ -60,6 +60,8 @@ pub const OVER_LENGTH: u8 = 18;
 
 pub const BAD_FIELD: u8 = 19;
 
+pub const BAD_INDEX: u8 = 20;
+
 // The longest text or table that is read, in bytes.
 pub const LONGEST: usize = 65535;
 

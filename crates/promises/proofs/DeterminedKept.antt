@@ -1,4 +1,4 @@
--- Every public function beside the seven operations has one answer: its contract says it as a function of what is given.
+-- Every public function beside the eight operations has one answer: its contract says it as a function of what is given.
 use mathlib.Core.Path.{_≡_, refl, ap, ap₂, sym, _∙_}
 use mathlib.Core.Bool.{cond, not}
 use mathlib.Core.List.{[], _∷_, _++_}
@@ -26,7 +26,12 @@ use Rattle.records.specs.Records as Records
 use Rattle.records.specs.Kinds.{kindNumber, pattern, variableAt}
 use Rattle.records.specs.inner.Keys.{keyOf}
 use Rattle.variables.specs.Tables.{checked}
-use Rattle.variables.specs.Lookups.{lookedUp, partOf}
+use Rattle.variables.specs.Holdings.{partOf}
+use Rattle.indexes.specs.Indexes.{givenBy, fits}
+use Rattle.indexes.specs.Buildings.{built, builtAnswer, indexAfter}
+use Rattle.indexes.specs.inner.Halving.{placeIn, searched, matchIn}
+use Rattle.lookups.specs.Lookups.{lookedUp}
+use Rattle.lookups.specs.inner.Through as Through
 use Rattle.variables.specs.Judgements as Judgements
 use Rattle.variables.specs.inner.Keys.{laidOver, judgedLines, matchAs, soughtBy}
 use Rattle.symbols.specs.Flags.{has}
@@ -126,6 +131,7 @@ determined =
       is-shaped = function-of (λ (table, (place, _)). Records.shaped table place) (λ κs a r after c. c);
       key-of = function-of (λ (name, _). keyOf name) (λ κs a r after c. c .0);
       same-name = function-of (λ (name, (other, _)). Records.sameName name other) (λ κs a r after c. c);
+      comes-before = function-of (λ (name, (other, _)). Records.comesBefore name other) (λ κs a r after c. c);
       kind-number = function-of (λ (kind, _). kindNumber kind) (λ κs a r after c. c);
       pattern-of = function-of (λ (value, _). pattern value) (λ κs a r after c. c);
       key-tables =
@@ -133,6 +139,18 @@ determined =
           (λ κs a r after c. ap₂ (λ r keys. (r, keys)) (c .0) (c .1));
       value-of = function-of (λ (farm, (house, (v, _))). partOf farm house v) (λ κs a r after c. c);
       find = function-of (λ (farm, (house, (keys, (name, _)))). matchAs farm house (soughtBy farm house keys name)) (λ κs a r after c. c);
+      place-in-index = function-of (λ (index, (entry, _)). placeIn index entry) (λ κs a r after c. c .0);
+      search-index = function-of (λ (table, (index, (name, _))). matchIn table (searched table index name)) (λ κs a r after c. c);
+      judge =
+          function-of
+          (λ (farm, (house, (index, (indexed, (keys, _))))). let given = givenBy indexed index in (
+            Through.judgedBy (Judgements.judged farm house) (fits given house) (Through.linesOf (Judgements.judged farm (Through.toLay house given))),
+            laidOver (judgedLines farm (Through.toLay house given)) keys,
+          ))
+          (λ κs a r after c. ap₂ (λ r keys. (r, keys)) (c .0) (c .1));
+      bytes-given = function-of (λ (index, (indexed, _)). Through.bytesGiven (givenBy indexed index)) (λ κs a r after c. c);
+      find-through =
+          function-of (λ (farm, (house, (keys, (index, (name, _))))). matchAs farm house (Through.soughtThrough farm house keys index name)) (λ κs a r after c. c);
       symbol-at = function-of (λ (text, (flags, (mode, (at, _)))). symbolAt text (flags .0) mode at) (λ κs a r after c. c);
       open-text =
           function-of (λ (text, (flags, _)). record { at = firstAt text (flags .0); mode = modeOf text (flags .0) })
@@ -145,7 +163,7 @@ determined =
           function-of (λ (text, (start, (spacesEnd, _))). start + Bytes.runOf (plainByte (alsoEnds spacesEnd)) (drop start text)) (λ κs a r after c. c);
       put = function-of (λ (byte, (to, (out, _))). (tt, laidAt out to (byte ∷ []))) (λ κs a r after c. ap (λ out. (tt, out)) c);
       copy = function-of (λ (given, (to, (out, _))). (tt, laidAt out to given)) (λ κs a r after c. ap (λ out. (tt, out)) c);
-      resolve = function-of (λ (content, (farm, (house, (keys, _)))). referredBy farm house keys content) (λ κs a r after c. c);
+      resolve = function-of (λ (content, (farm, (house, (keys, (index, _))))). referredBy farm house keys index content) (λ κs a r after c. c);
       level = function-of (λ (operator, _). Operators.levelOf operator) (λ κs a r after c. c);
       stands-alone = function-of (λ (operator, _). Operators.standsAlone operator) (λ κs a r after c. c);
       divides = function-of (λ (operator, _). Operators.divides operator) (λ κs a r after c. c);
@@ -179,11 +197,16 @@ determined =
       nos-read-unsigned =
           function-of (λ (text, (whole, (limit, _))). readingFace (reading text (not (eqb whole 0)) limit)) (λ κs a r after c. c);
       nos-check-table = function-of (λ (table, _). checkFace (checked table)) (λ κs a r after c. c);
-      nos-look-up = function-of (λ (name, (farm, (house, _))). foundFace (lookedUp farm house name)) (λ κs a r after c. c);
+      nos-build-index =
+          function-of (λ (table, (out, _)). (answerFace (builtAnswer (built table (length out))), indexAfter table out))
+          (λ κs a r after c. ap₂ (λ r out. (r, out)) (c .0) (c .1));
+      nos-look-up =
+          function-of (λ (name, (farm, (house, (index, (indexed, _))))). foundFace (lookedUp farm house (givenBy (not (eqb indexed 0)) index) name))
+          (λ κs a r after c. c);
       nos-translate =
           function-of
-          (λ (text, (farm, (house, (flags, (allowance, (out, _)))))).
-          (answerFace (translatedAnswer (translated text farm house flags allowance (length out))), outAfter text farm house flags allowance out))
+          (λ (text, (farm, (house, (index, (indexed, (flags, (allowance, (out, _)))))))). let given = givenBy (not (eqb indexed 0)) index in
+          (answerFace (translatedAnswer (translated text farm house given flags allowance (length out))), outAfter text farm house given flags allowance out))
           (λ κs a r after c. ap₂ (λ r out. (r, out)) (c .0) (c .1));
       nos-evaluate = function-of (λ (text, (farm, (house, (allowance, _)))). evaluationFace (evaluated text farm house allowance)) (λ κs a r after c. c);
     }

@@ -7,6 +7,7 @@ use Rattle.promises.proofs.DatesKept as Dates
 use Rattle.promises.proofs.ReadingsKept as Readings
 use Rattle.promises.proofs.TwoTablesKept as TwoTables
 use Rattle.promises.proofs.LookupsKept as Lookups
+use Rattle.promises.proofs.IndexesKept as Indexes
 use Rattle.promises.proofs.TranslationsKept as Translations
 use Rattle.promises.proofs.EvaluationsKept as Evaluations
 use Rattle.promises.proofs.DeterminedKept.{determined}
@@ -70,10 +71,24 @@ promises =
       look-up-finds = Lookups.finds;
       look-up-hides = Lookups.hides;
       look-up-misses = Lookups.misses;
+      look-up-bad-index = Lookups.misfits;
+      look-up-through = Lookups.through;
       look-up-inside = Lookups.inside;
       look-up-value-tied = Contracts.look-up-value;
       look-up-value-one-part = Lookups.one-part;
       look-up-value-part = Lookups.part;
+      names-in-order = Indexes.order;
+      one-arrangement = Indexes.one-arrangement;
+      build-tied = Contracts.build-index;
+      build-one-answer = Indexes.one-answer;
+      build-accepts = Indexes.accepts;
+      build-refusals = Indexes.refusals;
+      build-exact = Indexes.exact;
+      build-larger-room = Indexes.larger-room;
+      build-second-ask = Indexes.second-ask;
+      index-fits = Indexes.fits-exactly;
+      built-fits = Indexes.built-fits;
+      search-by-halving = Indexes.by-halving;
       translate-tied = Contracts.translate;
       translate-one-answer = Translations.one-answer;
       translate-accepts = Translations.accepts;
@@ -84,6 +99,8 @@ promises =
       translate-by-reading = Translations.by-reading;
       translate-accepted = Translations.accepted;
       translate-over-length = Translations.over-length-comes;
+      translate-bad-index = Translations.misfits;
+      translate-through = Translations.through;
       translate-larger = Translations.larger;
       translate-no-room = Translations.no-room-comes;
       translate-need = Translations.need;
@@ -102,6 +119,7 @@ promises =
       nos-convert-date-tied = Contracts.nos-convert-date;
       nos-read-unsigned-tied = Contracts.nos-read-unsigned;
       nos-check-table-tied = Contracts.nos-check-table;
+      nos-build-index-tied = Contracts.nos-build-index;
       nos-look-up-tied = Contracts.nos-look-up;
       nos-translate-tied = Contracts.nos-translate;
       nos-evaluate-tied = Contracts.nos-evaluate;

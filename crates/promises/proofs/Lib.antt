@@ -8,8 +8,10 @@ pub mod ConversionsKept
 pub mod DatesKept
 pub mod ReadingsKept
 pub mod TwoTablesKept
+pub mod LowNumbers
 pub mod LookupsKept
 pub mod TranslationsKept
+pub mod IndexesKept
 pub mod EvaluationsKept
 pub mod DeterminedKept
 pub mod Kept

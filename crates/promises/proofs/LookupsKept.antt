@@ -1,13 +1,13 @@
 -- What `check_table`, `look_up` and `look_up_value` promise is kept.
-use mathlib.Core.Path.{_≡_, refl, ap, sym, subst, _∙_}
-use mathlib.Core.Bool.{true, false, true≢false}
+use mathlib.Core.Path.{_≡_, refl, ap, ap₂, sym, subst, _∙_}
+use mathlib.Core.Bool.{Bool, true, false, true≢false}
 use mathlib.Core.List.{List, [], List·Memᴰ, Memᴰ·cast}
 use mathlib.Core.Logic.{_↔_}
 use Prim.Native.Nat.{ℕ, _+_, _≤_, _<_}
 use native.Mathlib.Omega.{arith}
 use lib.ListN.{length, take, drop}
-use Rattle.paper.specs.Answers.{in-farm, countedIn}
-use Rattle.paper.specs.Refusals.{unknown-name, allowance-spent}
+use Rattle.paper.specs.Answers.{in-farm, in-index, countedIn}
+use Rattle.paper.specs.Refusals.{unknown-name, allowance-spent, bad-index}
 use Rattle.paper.specs.declared.Holder.{Holder}
 use Rattle.paper.specs.declared.Holder.the-variants.{Farm, House}
 use Rattle.paper.specs.declared.RecordPlace.{RecordPlace}
@@ -18,37 +18,40 @@ use Rattle.records.proofs.KindLaws.{kind-number}
 use Rattle.records.proofs.Whole.{own-value}
 use Rattle.variables.specs.Tables.{present, checked, recordsOf, soughtIn, checkNumber}
 use Rattle.variables.specs.Holdings.{heldBy, Holding, nowhere, held, soughtInBoth}
+use Rattle.indexes.specs.Indexes.{Given, fits}
 use Rattle.variables.specs.Judgements.{badTable, judged}
-use Rattle.variables.specs.Lookups.{foundAs, foundBy, lookedUp, valuePart, foundNumber, foundCounted, foundPlace, foundKind, foundStart, foundLength}
+use Rattle.lookups.specs.Lookups.{foundAs, foundBy, lookedUp, valuePart, foundNumber, foundCounted, foundPlace, foundKind, foundStart, foundLength}
 use Rattle.variables.specs.declared.Checked.{Checked}
 use Rattle.variables.specs.declared.Checked.the-variants.{Good as GoodTable, BadTable as OfBadTable}
-use Rattle.variables.specs.declared.both.Found.{Found}
-use Rattle.variables.specs.declared.both.Found.the-variants.{At, Unknown, BadTable}
+use Rattle.lookups.specs.declared.Found.{Found}
+use Rattle.lookups.specs.declared.Found.the-variants.{At, Unknown, BadTable, BadIndex as Misfit}
 use Rattle.variables.specs.declared.both.Judged.{Judged}
 use Rattle.variables.specs.declared.both.Judged.the-variants.{Good as AllGood, BadTable as OneBad}
-use Rattle.variables.proofs.Bounds.{checked-bounded, over-length-exactly, good-table, bad-number, looked-up-bounded}
+use Rattle.variables.proofs.Bounds.{checked-bounded, over-length-exactly, good-table, bad-number, Within, judged-within}
+use Rattle.lookups.proofs.Bounds.{looked-up-bounded}
 use Rattle.variables.proofs.Format.{format}
 use Rattle.variables.proofs.Good.{Laid, laid, wholes}
 use Rattle.variables.proofs.Judging.{both-good, judged-so, both-are, refused}
 use Rattle.variables.proofs.Own.{Where, in-farm as found-in-farm, in-house as found-in-house, in-neither, sought-where}
 use Rattle.variables.proofs.Unique.{found, unique, missed, unmet, same-sought, own}
+use Rattle.promises.proofs.LowNumbers.{not-by-check}
 use Rattle.promises.specs.Accepted.{isGood, isKnown}
-use Rattle.promises.specs.Lookups.{OneCheck, OneFound, OnePart, CheckAccepts, LookUpAccepts, CheckRefusals, LookUpRefusals, OverLength, Records, Good, Judges, HasIt, Known, Names, Finds, Hides, Misses, Inside, Part}
+use Rattle.promises.specs.Lookups.{OneCheck, OneFound, OnePart, CheckAccepts, LookUpAccepts, CheckRefusals, LookUpRefusals, OverLength, Records, Good, Judges, HasIt, Known, Names, Finds, Hides, Misses, BadIndex, Through, Inside, Part}
 
 pub one-check : OneCheck
 one-check table r r′ c c′ = c .answer ∙ sym (c′ .answer)
 
 pub one-found : OneFound
-one-found farm house name r r′ c c′ = c .answer ∙ sym (c′ .answer)
+one-found farm house given name r r′ c c′ = c .answer ∙ sym (c′ .answer)
 
 pub one-part : OnePart
-one-part farm house name part part′ c c′ = c .answer ∙ sym (c′ .answer)
+one-part farm house given name part part′ c c′ = c .answer ∙ sym (c′ .answer)
 
 pub check-refusals : CheckRefusals
 check-refusals table r c = Memᴰ·cast (ap checkNumber (c .answer)) (checked-bounded table .listed)
 
 pub look-up-refusals : LookUpRefusals
-look-up-refusals farm house name r c = Memᴰ·cast (ap foundNumber (c .answer)) (looked-up-bounded farm house name .listed)
+look-up-refusals farm house given name r c = Memᴰ·cast (ap foundNumber (c .answer)) (looked-up-bounded farm house given name .listed)
 
 pub over-length : OverLength
 over-length table r c =
@@ -162,76 +165,60 @@ module _ (farm house name : List ℕ) where
     hidden-in (in-neither n k) e m same =
         clash (cc (sym n ∙ sym (same-sought (recordsOf farm) (e .name) name same) ∙ own (laid-in Farm .1) m))
 
-  abbrev G : Judged → Found
-  G d = foundBy farm house name d
-
   -- a refusal of the tables has a number that is neither 0 nor that of an unknown name
   module _ (number : ℕ) (holder : Holder) (at : RecordPlace) (e : judged farm house ≡ OneBad number holder at) where
     numbered : allowance-spent < number
     numbered = bad-number farm house number holder (at .0) e
 
+    not-misfit : number ≡ bad-index → ⊥
+    not-misfit = not-by-check (subst Within e (judged-within farm house) .2)
+
+  abbrev G : Judged → Bool → Found
+  G d f = foundBy farm house name d f
+
   known-in : (h : Holding) → (foundNumber (F h) ≡ 0) ↔ (isKnown (F h) ≡ true)
   known-in nowhere = (λ z. absurd (omega arith), λ z. clash (cc))
   known-in (held holder e) = (λ _. refl, λ _. refl)
 
-  known-by : (d : Judged) → judged farm house ≡ d → (foundNumber (G d) ≡ 0) ↔ (isKnown (G d) ≡ true)
-  known-by (AllGood n) e = known-in sought
-  known-by (OneBad number holder at) e = (λ z. absurd (omega (arith, numbered number holder at e)), λ z. clash (cc))
+  known-by : (d : Judged) (f : Bool) → judged farm house ≡ d → (foundNumber (G d f) ≡ 0) ↔ (isKnown (G d f) ≡ true)
+  known-by (AllGood n) true e = known-in sought
+  known-by (AllGood n) false e = (λ z. absurd (omega arith), λ z. clash (cc))
+  known-by (OneBad number holder at) f e = (λ z. absurd (omega (arith, numbered number holder at e)), λ z. clash (cc))
 
-  names-by : (d : Judged) → judged farm house ≡ d → foundNumber (G d) ≡ 0 → Names farm house name (G d)
-  names-by (AllGood n) e z = names-in n e (sought-where farm house name) z
-  names-by (OneBad number holder at) e z = absurd (omega (arith, numbered number holder at e))
+  names-by : (d : Judged) (f : Bool) → judged farm house ≡ d → foundNumber (G d f) ≡ 0 → Names farm house name (G d f)
+  names-by (AllGood n) true e z = names-in n e (sought-where farm house name) z
+  names-by (AllGood n) false e z = absurd (omega arith)
+  names-by (OneBad number holder at) f e z = absurd (omega (arith, numbered number holder at e))
 
-  abbrev Missed : Type 0
-  Missed =
-      (checkNumber (checked farm) ≡ 0) × (checkNumber (checked house) ≡ 0)
-      × ((holder : Holder) (e : Entry) → List·Memᴰ e (recordsOf (heldBy holder farm house)) → sameName (e .name) name ≡ false)
+  inside-by : (d : Judged) (f : Bool) → judged farm house ≡ d → (holder : Holder) → foundNumber (G d f) ≡ 0 → foundCounted (G d f) ≡ countedIn holder
+      → foundStart (G d f) + foundLength (G d f) ≤ length (heldBy holder farm house)
+  inside-by (AllGood n) true e holder z q = inside-in n e (sought-where farm house name) holder z q
+  inside-by (AllGood n) false e holder z q = omega arith
+  inside-by (OneBad number holder at) f e h z q = omega arith
 
-  missed-by : (d : Judged) → judged farm house ≡ d → (foundNumber (G d) ≡ unknown-name) ↔ Missed
-  missed-by (AllGood n) e =
-      let g = both-are farm house e in
-      let m = missed-in n e (sought-where farm house name) in
-      (λ z. (ap checkNumber (g .farm-good), ap checkNumber (g .house-good), m .0 z), λ h. m .1 (h .2))
-  missed-by (OneBad number holder at) e = (
-    λ z. absurd (omega (arith, numbered number holder at e)),
-    λ (f, h, none). clash (cc (sym e ∙ both-so farm house f h .1)),
-  )
+  -- what holds of both tables and of the index, and something more
+  module _ (given : Given) where
+    abbrev Sound : Bool → Type 0 → Type 0
+    Sound fit More = (checkNumber (checked farm) ≡ 0) × (checkNumber (checked house) ≡ 0) × (fits given house ≡ fit) × More
 
-  inside-by : (d : Judged) → judged farm house ≡ d → (holder : Holder) → foundNumber (G d) ≡ 0 → foundCounted (G d) ≡ countedIn holder
-      → foundStart (G d) + foundLength (G d) ≤ length (heldBy holder farm house)
-  inside-by (AllGood n) e holder z q = inside-in n e (sought-where farm house name) holder z q
-  inside-by (OneBad number holder at) e h z q = omega arith
+    -- where the tables and the index are found so
+    module _ {n : ℕ} (e : judged farm house ≡ AllGood n) {fit : Bool} (q : fits given house ≡ fit) where
+      sound : {More : Type 0} → More → Sound fit More
+      sound m = let g = both-are farm house e in (ap checkNumber (g .farm-good), ap checkNumber (g .house-good), q, m)
 
-  defined : G (judged farm house) ≡ lookedUp farm house name
-  unfolding lookedUp
-  defined = refl
+    -- tables that are refused are not both good
+    no-good : {number : ℕ} {holder : Holder} {at : RecordPlace} {A : Type 0} → judged farm house ≡ OneBad number holder at
+        → checkNumber (checked farm) ≡ 0 → checkNumber (checked house) ≡ 0 → A
+    no-good e f h = clash (cc (sym e ∙ both-so farm house f h .1))
 
--- a look-up's answer is that in the tables as they were judged
-judged-as : (farm house name : List ℕ) (r : Found) → r ≡ lookedUp farm house name → foundBy farm house name (judged farm house) ≡ r
-judged-as farm house name r e = defined farm house name ∙ sym e
-
-pub look-up-accepts : LookUpAccepts
-look-up-accepts farm house name r c =
-    subst (λ r. (foundNumber r ≡ 0) ↔ (isKnown r ≡ true)) (judged-as farm house name r (c .answer)) (known-by farm house name (judged farm house) refl)
-
-pub judges : Judges
-judges farm house name r number holder place c e =
-    let refused-so = refused [] farm house number holder place e .1 in
-    let is : r ≡ foundBy farm house name (badTable number holder place) =
-    sym (judged-as farm house name r (c .answer)) ∙ ap (foundBy farm house name) refused-so in
-    (ap foundNumber is, ap foundCounted is, ap foundPlace is)
-
-pub finds : Finds
-finds farm house name r c =
-    subst (λ r. foundNumber r ≡ 0 → Names farm house name r) (judged-as farm house name r (c .answer)) (names-by farm house name (judged farm house) refl)
-
-pub known : Known
-known farm house name r c =
-    subst (λ r. (foundNumber r ≡ 0) ↔ ((checkNumber (checked farm) ≡ 0) × (checkNumber (checked house) ≡ 0) × HasIt farm house name))
-    (judged-as farm house name r (c .answer)) (go (judged farm house) refl)
-  where
-    has : {d : Found} → Names farm house name d → HasIt farm house name
-    has n = record { holder = n .holder; entry = n .entry; member = n .member; named = n .named }
+    missed-by : (d : Judged) (f : Bool) → judged farm house ≡ d → fits given house ≡ f
+        → (foundNumber (G d f) ≡ unknown-name)
+        ↔ Sound true ((holder : Holder) (e : Entry) → List·Memᴰ e (recordsOf (heldBy holder farm house)) → sameName (e .name) name ≡ false)
+    missed-by (AllGood n) true e q =
+        let m = missed-in n e (sought-where farm house name) in
+        (λ z. sound e q (m .0 z), λ h. m .1 (h .3))
+    missed-by (AllGood n) false e q = (λ z. absurd (omega arith), λ h. absurd (true≢false (sym (h .2) ∙ q)))
+    missed-by (OneBad number holder at) f e q = (λ z. absurd (omega (arith, numbered number holder at e)), λ h. no-good e (h .0) (h .1))
 
     -- a record that has the name is found
     found-so : {n : ℕ} → judged farm house ≡ AllGood n → HasIt farm house name → {h : Holding} → Where farm house name h → foundNumber (foundAs farm house h) ≡ 0
@@ -239,37 +226,96 @@ known farm house name r c =
     found-so e i (found-in-house x n p) = refl
     found-so e i (in-neither n m) =
         let none : (holder : Holder) (x : Entry) → List·Memᴰ x (recordsOf (heldBy holder farm house)) → sameName (x .name) name ≡ false =
-        missed-in farm house name _ e (in-neither n m) .0 refl in
+        missed-in _ e (in-neither n m) .0 refl in
         absurd (true≢false (sym (i .named) ∙ none (i .holder) (i .entry) (i .member)))
 
-    go : (d : Judged) → judged farm house ≡ d
-        → (foundNumber (foundBy farm house name d) ≡ 0) ↔ ((checkNumber (checked farm) ≡ 0) × (checkNumber (checked house) ≡ 0) × HasIt farm house name)
-    go (AllGood n) e =
-        let g = both-are farm house e in (
-          λ z. (ap checkNumber (g .farm-good), ap checkNumber (g .house-good), has (names-by farm house name (AllGood n) e z)),
-          λ (f, h, i). found-so e i (sought-where farm house name),
-        )
-    go (OneBad number holder at) e = (
-      λ z. absurd (omega (arith, numbered farm house name number holder at e)),
-      λ (f, h, i). clash (cc (sym e ∙ both-so farm house f h .1)),
+    has : {d : Found} → Names farm house name d → HasIt farm house name
+    has n = record { holder = n .holder; entry = n .entry; member = n .member; named = n .named }
+
+    has-by : (d : Judged) (f : Bool) → judged farm house ≡ d → fits given house ≡ f → (foundNumber (G d f) ≡ 0) ↔ Sound true (HasIt farm house name)
+    has-by (AllGood n) true e q = (λ z. sound e q (has (names-by (AllGood n) true e z)), λ h. found-so e (h .3) (sought-where farm house name))
+    has-by (AllGood n) false e q = (λ z. absurd (omega arith), λ h. absurd (true≢false (sym (h .2) ∙ q)))
+    has-by (OneBad number holder at) f e q = (λ z. absurd (omega (arith, numbered number holder at e)), λ h. no-good e (h .0) (h .1))
+
+    abbrev Misfits : Found → Type 0
+    Misfits r =
+        ((foundNumber r ≡ bad-index) ↔ ((checkNumber (checked farm) ≡ 0) × (checkNumber (checked house) ≡ 0) × (fits given house ≡ false)))
+        × (foundNumber r ≡ bad-index → (foundCounted r ≡ in-index) × (foundPlace r ≡ 0))
+
+    known-fits : (h : Holding) → foundNumber (F h) ≡ bad-index → ⊥
+    known-fits nowhere z = omega arith
+    known-fits (held holder e) z = omega arith
+
+    misfit-by : (d : Judged) (f : Bool) → judged farm house ≡ d → fits given house ≡ f → Misfits (G d f)
+    misfit-by (AllGood n) false e q = (
+      (λ z. let g = both-are farm house e in (ap checkNumber (g .farm-good), ap checkNumber (g .house-good), q), λ _. refl),
+      λ _. (refl, refl),
+    )
+    misfit-by (AllGood n) true e q = (
+      (λ z. absurd (known-fits sought z), λ h. absurd (true≢false (sym q ∙ h .2))),
+      λ z. absurd (known-fits sought z),
+    )
+    misfit-by (OneBad number holder at) f e q = (
+      (λ z. absurd (not-misfit number holder at e z), λ h. no-good e (h .0) (h .1)),
+      λ z. absurd (not-misfit number holder at e z),
     )
 
+    defined : G (judged farm house) (fits given house) ≡ lookedUp farm house given name
+    unfolding lookedUp
+    defined = refl
+
+    -- what holds of an answer by what was judged holds of the look-up's
+    as-judged : (P : Found → Type 0) (r : Found) → r ≡ lookedUp farm house given name → P (G (judged farm house) (fits given house)) → P r
+    as-judged P r e p = subst P (defined ∙ sym e) p
+
+pub look-up-accepts : LookUpAccepts
+look-up-accepts farm house given name r c =
+    as-judged farm house name given (λ r. (foundNumber r ≡ 0) ↔ (isKnown r ≡ true)) r (c .answer) (known-by farm house name (judged farm house) (fits given house) refl)
+
+pub judges : Judges
+judges farm house given name r number holder place c e =
+    let refused-so = refused [] farm house number holder place e .1 in
+    let is : r ≡ foundBy farm house name (badTable number holder place) (fits given house) =
+    c .answer ∙ sym (defined farm house name given) ∙ ap (λ d. foundBy farm house name d (fits given house)) refused-so in
+    (ap foundNumber is, ap foundCounted is, ap foundPlace is)
+
+pub finds : Finds
+finds farm house given name r c =
+    as-judged farm house name given (λ r. foundNumber r ≡ 0 → Names farm house name r) r (c .answer) (names-by farm house name (judged farm house) (fits given house) refl)
+
+pub known : Known
+known farm house given name r c =
+    as-judged farm house name given (λ r. (foundNumber r ≡ 0) ↔ Sound farm house name given true (HasIt farm house name)) r (c .answer)
+    (has-by farm house name given (judged farm house) (fits given house) refl refl)
+
 pub hides : Hides
-hides farm house name r e c f h m same =
+hides farm house given name r e c f h fit m same =
     let good = both-so farm house f h in
-    let is : foundBy farm house name (AllGood (good .0)) ≡ r = ap (foundBy farm house name) (sym (good .1)) ∙ judged-as farm house name r (c .answer) in
+    let is : foundBy farm house name (AllGood (good .0)) true ≡ r =
+    ap₂ (foundBy farm house name) (sym (good .1)) (sym fit) ∙ defined farm house name given ∙ sym (c .answer) in
     subst (λ r. (foundNumber r ≡ 0) × (foundCounted r ≡ in-farm) × (foundPlace r ≡ e .place) × (foundKind r ≡ e .kind)) is
     (hidden-in farm house name (good .0) (good .1) (sought-where farm house name) e m same)
 
 pub misses : Misses
-misses farm house name r c =
-    subst (λ r. (foundNumber r ≡ unknown-name) ↔ Missed farm house name) (judged-as farm house name r (c .answer))
-    (missed-by farm house name (judged farm house) refl)
+misses farm house given name r c =
+    as-judged farm house name given
+    (λ r. (foundNumber r ≡ unknown-name)
+    ↔ Sound farm house name given true ((holder : Holder) (e : Entry) → List·Memᴰ e (recordsOf (heldBy holder farm house)) → sameName (e .name) name ≡ false))
+    r (c .answer) (missed-by farm house name given (judged farm house) (fits given house) refl refl)
+
+pub misfits : BadIndex
+misfits farm house given name r c =
+    as-judged farm house name given (Misfits farm house name given) r (c .answer) (misfit-by farm house name given (judged farm house) (fits given house) refl refl)
+
+pub through : Through
+unfolding lookedUp
+through farm house given name r r′ fit c c′ = c .answer ∙ ap (foundBy farm house name (judged farm house)) fit ∙ sym (c′ .answer)
 
 pub inside : Inside
-inside farm house name r holder c =
-    subst (λ (f : Found). foundNumber f ≡ 0 → foundCounted f ≡ countedIn holder → foundStart f + foundLength f ≤ length (heldBy holder farm house))
-    (judged-as farm house name r (c .answer)) (inside-by farm house name (judged farm house) refl holder)
+inside farm house given name r holder c =
+    as-judged farm house name given
+    (λ (f : Found). foundNumber f ≡ 0 → foundCounted f ≡ countedIn holder → foundStart f + foundLength f ≤ length (heldBy holder farm house))
+    r (c .answer) (inside-by farm house name (judged farm house) (fits given house) refl holder)
 
 -- the part of what was found, by the table that it is counted in
 part-of : (farm house : List ℕ) (r : Found)
@@ -282,9 +328,10 @@ part-of farm house (At v) = (
 )
 part-of farm house Unknown = (λ holder z q. absurd (omega arith), λ _. refl)
 part-of farm house (BadTable number holder at) = (λ h z q. refl, λ _. refl)
+part-of farm house Misfit = (λ h z q. refl, λ _. refl)
 
 pub part : Part
-part farm house name handed r c p =
+part farm house given name handed r c p =
     let same : handed ≡ valuePart farm house r = p .answer ∙ ap (valuePart farm house) (sym (c .answer)) in
     let o = part-of farm house r in
     (λ holder z q. same ∙ o .0 holder z q, λ n. same ∙ o .1 n)

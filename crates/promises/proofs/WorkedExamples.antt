@@ -8,10 +8,10 @@ use native.Mathlib.Omega.{arith}
 use lib.Dec.{lit≤, lit<}
 use lib.IntN.{pos, negℤ}
 use lib.ListN.{length, drop}
-use Rattle.paper.specs.Answers.{Answer, in-text, in-house, in-farm}
+use Rattle.paper.specs.Answers.{Answer, in-text, in-house, in-farm, in-index}
 use Rattle.paper.specs.Bytes.{nameByte, wordByte}
 use Rattle.paper.specs.Layings.{terminator, roomFor, layingOf, convertedBy, convertedAnswer}
-use Rattle.paper.specs.Refusals.{no-room, bad-base, too-deep, allowance-spent, bad-table, bad-expression, not-an-integer, over-length, bad-field}
+use Rattle.paper.specs.Refusals.{no-room, bad-base, too-deep, allowance-spent, bad-table, bad-expression, not-an-integer, over-length, bad-field, bad-index}
 use Rattle.paper.specs.Texts.{bytes}
 use Rattle.paper.specs.Traces as Traces
 use Rattle.forms.specs.Digits.{digits, enough}
@@ -28,10 +28,13 @@ use Rattle.dates.specs.Formats.{pieceAt, layoutFrom, good}
 use Rattle.dates.specs.Conversions.{dated, dateAnswer}
 use Rattle.dates.proofs.Outcomes.{converted-kept}
 use Rattle.reader.specs.Reading.{digit, judged as judgedReading, inBase, numbered, reading, readNumber, readPlace, readValue}
-use Rattle.records.specs.Records.{string-kind, integer-kind, headed, sized, fitting, nameAt, valueAt, small, sameName, entryAt}
-use Rattle.variables.specs.Tables.{entries, sought, sound, scanned}
+use Rattle.records.specs.Records.{string-kind, integer-kind, headed, sized, fitting, nameAt, valueAt, small, sameName, comesBefore, entryAt}
+use Rattle.variables.specs.Tables.{entries, sought, sound, scanned, checked}
 use Rattle.variables.specs.Judgements.{judged}
-use Rattle.variables.specs.Lookups.{lookedUp, foundNumber, foundCounted, foundPlace, foundKind}
+use Rattle.indexes.specs.Indexes.{Given, no-index, index-of, inserted, insertedAll, indexOf}
+use Rattle.indexes.specs.Buildings.{built, laidBy, indexAfter, builtAnswer}
+use Rattle.indexes.specs.declared.building.Built.{Built}
+use Rattle.lookups.specs.Lookups.{lookedUp, foundNumber, foundCounted, foundPlace, foundKind}
 use Rattle.variables.specs.Names.{meant}
 use Rattle.symbols.specs.Symbols.{symbolAt, active, barred, code, coded, punctuation, toppedCode, toppedSymbol, referred, closed, quotedOther, firstAt, modeOf}
 use Rattle.gs.specs.Readings.{nameGives, contentGives, symbolGives, symbolsFrom, wholeText, expands}
@@ -43,10 +46,10 @@ use Rattle.gs.specs.declared.Translated.{Translated}
 use Rattle.expressions.specs.declared.Evaluated.{Evaluated}
 use Rattle.expressions.specs.Answers.{evaluated, evaluatedNumber, evaluatedCounted, evaluatedPlace, evaluatedValue}
 use Rattle.arithmetic.specs.Values.{signed, sum, difference, product, quotient, remainder}
-use Rattle.promises.specs.Allowed.{Converts, Dates, Translates, Evaluates}
+use Rattle.promises.specs.Allowed.{Converts, Dates, Builds, LooksUp, Translates, Evaluates}
 use Rattle.promises.specs.Conversions as Numbers
 use Rattle.promises.specs.Dates.{Fit, fieldsIn, needed}
-use Rattle.promises.specs.Examples.{writes, gives, lacks, dates, mistakes, reads, refuses, translates, stops, evaluates, fails, finds, selfNaming, named-x, numbered-7, naming-a, first-time, last-time, february-1900, march-1900, end-of-1999, end-of-2000, february-2000, Holds, All, examples}
+use Rattle.promises.specs.Examples.{writes, gives, lacks, dates, mistakes, reads, refuses, translates, stops, evaluates, fails, finds, indexes, spares, through, misfits, leads, selfNaming, named-x, numbered-7, naming-a, letter-and-sign, sign-first, with-a-beginning, first-time, last-time, february-1900, march-1900, end-of-1999, end-of-2000, february-2000, Holds, All, examples}
 use Rattle.promises.proofs.ConversionsKept as Conversions
 use Rattle.promises.proofs.DatesKept as DatesOf
 
@@ -144,17 +147,25 @@ p9 : Holds (refuses "37_1" bad-base 0)
 unfolding reading numbered inBase judgedReading digit
 p9 r c = (ap readNumber (c .answer), ap readPlace (c .answer))
 
--- a row of a text over two tables: its answer and what it leaves are the definition's at the room
+-- a row of a text over two tables, with an index or without: its answer and what it leaves are the definition's at the room
+given-row :
+    (text : String) (farm house : List ℕ) (given : Given) (allowance : ℕ) {room : ℕ} (out after : List ℕ) (r : Translated) → length out ≡ room
+    → Translates (bytes text) farm house given 0 allowance out r after
+    → (translatedAnswer r ≡ translatedAnswer (translated (bytes text) farm house given 0 allowance room))
+    × (after ≡ leftBy (translated (bytes text) farm house given 0 allowance room) (Traces.bytes (readingOf (bytes text) farm house 0)) out)
+unfolding outAfter
+given-row text farm house given allowance out after r long c = (
+  ap translatedAnswer (c .answer ∙ ap (translated (bytes text) farm house given 0 allowance) long),
+  c .buffer ∙ ap (λ n. leftBy (translated (bytes text) farm house given 0 allowance n) (Traces.bytes (readingOf (bytes text) farm house 0)) out) long,
+)
+
+-- without one: its answer and what it leaves are the definition's at the room
 translated-row :
     (text : String) (farm house : List ℕ) (allowance : ℕ) {room : ℕ} (out after : List ℕ) (r : Translated) → length out ≡ room
-    → Translates (bytes text) farm house 0 allowance out r after
-    → (translatedAnswer r ≡ translatedAnswer (translated (bytes text) farm house 0 allowance room))
-    × (after ≡ leftBy (translated (bytes text) farm house 0 allowance room) (Traces.bytes (readingOf (bytes text) farm house 0)) out)
-unfolding outAfter
-translated-row text farm house allowance out after r long c = (
-  ap translatedAnswer (c .answer ∙ ap (translated (bytes text) farm house 0 allowance) long),
-  c .buffer ∙ ap (λ n. leftBy (translated (bytes text) farm house 0 allowance n) (Traces.bytes (readingOf (bytes text) farm house 0)) out) long,
-)
+    → Translates (bytes text) farm house no-index 0 allowance out r after
+    → (translatedAnswer r ≡ translatedAnswer (translated (bytes text) farm house no-index 0 allowance room))
+    × (after ≡ leftBy (translated (bytes text) farm house no-index 0 allowance room) (Traces.bytes (readingOf (bytes text) farm house 0)) out)
+translated-row text farm house allowance out after r long c = given-row text farm house no-index allowance out after r long c
 
 evaluated-row :
     (text : String) (farm house : List ℕ) (allowance : ℕ) (r : Evaluated) → Evaluates (bytes text) farm house allowance r
@@ -231,6 +242,68 @@ found-in-the-house r handed c p = (
   ap foundKind (c .answer),
   p .answer,
 )
+
+-- a row of a table and a room: the index's answer and what it leaves are the definition's at the room
+built-row :
+    (table : List ℕ) {room : ℕ} (out after : List ℕ) (r : Built) → length out ≡ room → Builds table out r after
+    → (builtAnswer r ≡ builtAnswer (built table room)) × (after ≡ laidBy (built table room) (indexOf table) out)
+unfolding indexAfter
+built-row table out after r long c = (
+  ap builtAnswer (c .answer ∙ ap (built table) long),
+  c .buffer ∙ ap (λ n. laidBy (built table n) (indexOf table) out) long,
+)
+
+sign-before-letter : Holds (indexes letter-and-sign 4 sign-first 0)
+unfolding built indexAfter checked scanned sound headed sized fitting nameAt valueAt nameByte small sameName entryAt entries sought inserted insertedAll comesBefore
+sign-before-letter out after r long c = built-row letter-and-sign out after r long c
+
+beginning-first : Holds (indexes with-a-beginning 6 (8 ∷ 0 ∷ 0 ∷ 0 ∷ []) 2)
+unfolding built indexAfter checked scanned sound headed sized fitting nameAt valueAt nameByte small sameName entryAt entries sought inserted insertedAll comesBefore
+beginning-first out after r long c = built-row with-a-beginning out after r long c
+
+no-entry : Holds (indexes [] 0 [] 0)
+unfolding built indexAfter checked scanned sound headed sized fitting nameAt valueAt nameByte small sameName entryAt entries sought inserted insertedAll comesBefore
+no-entry out after r long c = built-row [] out after r long c
+
+a-byte-short : Holds (spares letter-and-sign 3 4)
+unfolding built indexAfter checked scanned sound headed sized fitting nameAt valueAt nameByte small sameName entryAt entries sought inserted insertedAll comesBefore
+a-byte-short out after r long c = built-row letter-and-sign out after r long c
+
+both-through : Holds (through "<_><a>" letter-and-sign sign-first 2 2 (bytes "yx") 6 0)
+unfolding translated outAfter judged scanned sound headed sized fitting nameAt valueAt nameByte small sameName entryAt entries sought meant nameGives contentGives symbolGives symbolsFrom wholeText expands symbolAt active barred code coded punctuation toppedCode toppedSymbol referred closed quotedOther firstAt modeOf reading numbered inBase judgedReading digit string digits enough inserted insertedAll comesBefore
+both-through out after r long c = given-row "<_><a>" [] letter-and-sign (index-of sign-first) 2 out after r long c
+
+sign-found : Holds (leads "_" letter-and-sign sign-first 7 string-kind (bytes "y"))
+unfolding lookedUp judged scanned sound headed sized fitting nameAt valueAt nameByte small sameName entryAt entries sought inserted insertedAll comesBefore
+sign-found r handed c p = (
+  ap foundNumber (c .answer),
+  ap foundCounted (c .answer),
+  ap foundPlace (c .answer),
+  ap foundKind (c .answer),
+  p .answer,
+)
+
+letter-found : Holds (leads "a" letter-and-sign sign-first 0 string-kind (bytes "x"))
+unfolding lookedUp judged scanned sound headed sized fitting nameAt valueAt nameByte small sameName entryAt entries sought inserted insertedAll comesBefore
+letter-found r handed c p = (
+  ap foundNumber (c .answer),
+  ap foundCounted (c .answer),
+  ap foundPlace (c .answer),
+  ap foundKind (c .answer),
+  p .answer,
+)
+
+entries-exchanged : Holds (misfits "<b>" letter-and-sign (0 ∷ 0 ∷ 7 ∷ 0 ∷ []) 1 1 "b")
+unfolding translated outAfter judged scanned sound headed sized fitting nameAt valueAt nameByte small sameName entryAt entries sought meant nameGives contentGives symbolGives symbolsFrom wholeText expands symbolAt active barred code coded punctuation toppedCode toppedSymbol referred closed quotedOther firstAt modeOf reading numbered inBase judgedReading digit string digits enough lookedUp inserted insertedAll comesBefore
+entries-exchanged out after r f long c l =
+    let t = given-row "<b>" [] letter-and-sign (index-of (0 ∷ 0 ∷ 7 ∷ 0 ∷ [])) 1 out after r long c in
+    (t .0, t .1, ap foundNumber (l .answer), ap foundCounted (l .answer), ap foundPlace (l .answer))
+
+longer-index : Holds (misfits "" letter-and-sign (sign-first ++ (0 ∷ 0 ∷ [])) 0 0 "_")
+unfolding translated outAfter judged scanned sound headed sized fitting nameAt valueAt nameByte small sameName entryAt entries sought meant nameGives contentGives symbolGives symbolsFrom wholeText expands symbolAt active barred code coded punctuation toppedCode toppedSymbol referred closed quotedOther firstAt modeOf reading numbered inBase judgedReading digit string digits enough lookedUp inserted insertedAll comesBefore
+longer-index out after r f long c l =
+    let t = given-row "" [] letter-and-sign (index-of (sign-first ++ (0 ∷ 0 ∷ []))) 0 out after r long c in
+    (t .0, t .1, ap foundNumber (l .answer), ap foundCounted (l .answer), ap foundPlace (l .answer))
 
 macro-of-the-house : Holds (translates "<m>" named-x naming-a 2 2 (bytes "x!") 3 0)
 unfolding translated outAfter judged scanned sound headed sized fitting nameAt valueAt nameByte small sameName entryAt entries sought meant nameGives contentGives symbolGives symbolsFrom wholeText expands symbolAt active barred code coded punctuation toppedCode toppedSymbol referred closed quotedOther firstAt modeOf reading numbered inBase judgedReading digit string digits enough
@@ -326,4 +399,4 @@ four-bytes buf after r long c = mistakes-row (0 ∷ 0 ∷ 0 ∷ 0 ∷ []) (bytes
 
 -- the table, whole
 pub worked-examples : All examples
-worked-examples = (p1, (p2, (p3, (p4, (p5, (p6, (p7, (p8, (p9, (p10, (p11, (p12, (p13, (p13-farm, (p14, (p15, (without-a-zero-byte, (lacks-a-character, (with-a-zero-byte, (lacks-its-zero-byte, (a-byte-stays, (empty-text, (string-hides, (integer-hides, (integer-counts, (string-counts-not, (found-in-the-farm, (found-in-the-house, (macro-of-the-house, (macro-of-the-farm, (macro-spends-two, (farm-told-first, (house-told, (names-itself-thrice, (names-itself, (names-itself-behind, (zero-divisor-unread, (first-date, (last-date, (day-in-2000, (last-of-february, (first-of-march, (day-366, (day-365, (percent-signs, (percent-sign-left, (small-letters, (half-a-name, (room-too-small, (empty-format, (four-bytes, tt)))))))))))))))))))))))))))))))))))))))))))))))))))
+worked-examples = (p1, (p2, (p3, (p4, (p5, (p6, (p7, (p8, (p9, (p10, (p11, (p12, (p13, (p13-farm, (p14, (p15, (without-a-zero-byte, (lacks-a-character, (with-a-zero-byte, (lacks-its-zero-byte, (a-byte-stays, (empty-text, (string-hides, (integer-hides, (integer-counts, (string-counts-not, (found-in-the-farm, (found-in-the-house, (sign-before-letter, (beginning-first, (no-entry, (a-byte-short, (both-through, (sign-found, (letter-found, (entries-exchanged, (longer-index, (macro-of-the-house, (macro-of-the-farm, (macro-spends-two, (farm-told-first, (house-told, (names-itself-thrice, (names-itself, (names-itself-behind, (zero-divisor-unread, (first-date, (last-date, (day-in-2000, (last-of-february, (first-of-march, (day-366, (day-365, (percent-signs, (percent-sign-left, (small-letters, (half-a-name, (room-too-small, (empty-format, (four-bytes, tt))))))))))))))))))))))))))))))))))))))))))))))))))))))))))))

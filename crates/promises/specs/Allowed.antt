@@ -11,9 +11,12 @@ use Rattle.dates.specs.Conversions.{dateAnswer, dateBuffer}
 use Rattle.reader.specs.Reading.{reading}
 use Rattle.reader.specs.declared.Reading.{Reading}
 use Rattle.variables.specs.Tables.{checked}
-use Rattle.variables.specs.Lookups.{lookedUp, valuePart}
+use Rattle.indexes.specs.Indexes.{Given}
+use Rattle.indexes.specs.Buildings.{built, indexAfter}
+use Rattle.indexes.specs.declared.building.Built.{Built}
+use Rattle.lookups.specs.Lookups.{lookedUp, valuePart}
 use Rattle.variables.specs.declared.Checked.{Checked}
-use Rattle.variables.specs.declared.both.Found.{Found}
+use Rattle.lookups.specs.declared.Found.{Found}
 use Rattle.gs.specs.Translations.{translated, outAfter}
 use Rattle.gs.specs.declared.Translated.{Translated}
 use Rattle.expressions.specs.Answers.{evaluated}
@@ -37,18 +40,23 @@ pub record Reads (text : List ℕ) (whole : Bool) (limit : ℕ) (r : Reading) : 
 pub record Checks (table : List ℕ) (r : Checked) : Type 0 where
   pub answer : r ≡ checked table
 
+-- `build_index`
+pub record Builds (table out : List ℕ) (r : Built) (after : List ℕ) : Type 0 where
+  pub answer : r ≡ built table (length out)
+  pub buffer : after ≡ indexAfter table out
+
 -- `look_up`
-pub record LooksUp (farm house name : List ℕ) (r : Found) : Type 0 where
-  pub answer : r ≡ lookedUp farm house name
+pub record LooksUp (farm house : List ℕ) (given : Given) (name : List ℕ) (r : Found) : Type 0 where
+  pub answer : r ≡ lookedUp farm house given name
 
 -- `look_up_value`
-pub record HandsBack (farm house name part : List ℕ) : Type 0 where
-  pub answer : part ≡ valuePart farm house (lookedUp farm house name)
+pub record HandsBack (farm house : List ℕ) (given : Given) (name part : List ℕ) : Type 0 where
+  pub answer : part ≡ valuePart farm house (lookedUp farm house given name)
 
 -- `translate`
-pub record Translates (text farm house : List ℕ) (flags allowance : ℕ) (out : List ℕ) (r : Translated) (after : List ℕ) : Type 0 where
-  pub answer : r ≡ translated text farm house flags allowance (length out)
-  pub buffer : after ≡ outAfter text farm house flags allowance out
+pub record Translates (text farm house : List ℕ) (given : Given) (flags allowance : ℕ) (out : List ℕ) (r : Translated) (after : List ℕ) : Type 0 where
+  pub answer : r ≡ translated text farm house given flags allowance (length out)
+  pub buffer : after ≡ outAfter text farm house given flags allowance out
 
 -- `evaluate`
 pub record Evaluates (text farm house : List ℕ) (allowance : ℕ) (r : Evaluated) : Type 0 where

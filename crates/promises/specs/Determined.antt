@@ -1,4 +1,4 @@
--- That the public functions beside the seven operations and `look_up_value` have one answer too, each by its own contract as a caller learns it.
+-- That the public functions beside the eight operations and `look_up_value` have one answer too, each by its own contract as a caller learns it.
 -- Those have it in their pages. `filter`'s `run` has it not: its contract leaves open what was read.
 use mathlib.Core.Path.{_≡_}
 use mathlib.Core.List.{List}
@@ -33,11 +33,17 @@ use Rattle.records.proofs.variable_at.Reads as variable-at
 use Rattle.records.proofs.is_shaped.Reads as is-shaped
 use Rattle.records.proofs.names.key_of.Reads as key-of
 use Rattle.records.proofs.names.same_name.Reads as same-name
+use Rattle.records.proofs.names.comes_before.Reads as comes-before
 use Rattle.records.proofs.kinds.Kind.number.Reads as kind-number
 use Rattle.records.proofs.integers.pattern_of.Reads as pattern-of
 use Rattle.variables.proofs.both.key_tables.Reads as key-tables
 use Rattle.variables.proofs.both.value_of.Reads as value-of
 use Rattle.variables.proofs.keys.find.Reads as find
+use Rattle.indexes.proofs.place_at.Reads as place-in-index
+use Rattle.indexes.proofs.search.Reads as search-index
+use Rattle.lookups.proofs.judge.Reads as judge
+use Rattle.lookups.proofs.bytes_given.Reads as bytes-given
+use Rattle.lookups.proofs.find.Reads as find-through
 use Rattle.symbols.proofs.flags.Flags.of.Reads as flags-of
 use Rattle.symbols.proofs.flags.Flags.none.Reads as flags-none
 use Rattle.symbols.proofs.flags.Flags.has.Reads as flags-has
@@ -69,7 +75,8 @@ use Rattle.nosgoludd.proofs.conversions.nos_convert.Reads as nos-convert
 use Rattle.nosgoludd.proofs.conversions.nos_convert_date.Reads as nos-convert-date
 use Rattle.nosgoludd.proofs.readings.nos_read_unsigned.Reads as nos-read-unsigned
 use Rattle.nosgoludd.proofs.checks.nos_check_table.Reads as nos-check-table
-use Rattle.nosgoludd.proofs.lookups.nos_look_up.Reads as nos-look-up
+use Rattle.nosgoludd.proofs.buildings.nos_build_index.Reads as nos-build-index
+use Rattle.nosgoludd.proofs.meanings.nos_look_up.Reads as nos-look-up
 use Rattle.nosgoludd.proofs.translations.nos_translate.Reads as nos-translate
 use Rattle.nosgoludd.proofs.evaluations.nos_evaluate.Reads as nos-evaluate
 
@@ -132,12 +139,22 @@ pub record Determined : Type 0 where
   pub is-shaped : One is-shaped.Learnt (lent rest) answer-alone
   pub key-of : One key-of.Learnt (lent rest) answer-alone
   pub same-name : One same-name.Learnt (lent (lent rest)) answer-alone
+  pub comes-before : One comes-before.Learnt (lent (lent rest)) answer-alone
   pub kind-number : One kind-number.Learnt rest answer-alone
   pub pattern-of : One pattern-of.Learnt (lent rest) answer-alone
   -- variables: the answer of `value_of` is a part of a table too
   pub key-tables : One key-tables.Learnt (lent (lent (lent rest))) (answer-and (λ (farm, (house, (keys, _))). keys))
   pub value-of : One value-of.Learnt (lent (lent rest)) (λ r after. now r)
   pub find : One find.Learnt (lent (lent (lent (lent rest)))) answer-alone
+  -- indexes
+  pub place-in-index : One place-in-index.Learnt (lent rest) answer-alone
+  pub search-index : One search-index.Learnt (lent (lent (lent rest))) answer-alone
+  -- lookups: the answer of `bytes_given` is a part of the index
+  pub judge :
+      One judge.Learnt (lent (lent (lent (plain (lent rest)))))
+      (answer-and (λ (farm, (house, (index, (indexed, (keys, _))))). keys))
+  pub bytes-given : One bytes-given.Learnt (lent rest) (λ r after. now r)
+  pub find-through : One find-through.Learnt (lent (lent (lent (lent (lent rest))))) answer-alone
   -- symbols
   pub symbol-at : One symbol-at.Learnt (lent rest) answer-alone
   pub open-text : One open-text.Learnt (lent rest) answer-alone
@@ -150,7 +167,7 @@ pub record Determined : Type 0 where
   pub put : One put.Learnt (plain (plain (lent rest))) (answer-and (λ (byte, (to, (out, _))). out))
   pub copy : One copy.Learnt (lent (plain (lent rest))) (answer-and (λ (given, (to, (out, _))). out))
   -- references
-  pub resolve : One resolve.Learnt (lent (lent (lent (lent rest)))) answer-alone
+  pub resolve : One resolve.Learnt (lent (lent (lent (lent (lent rest))))) answer-alone
   -- arithmetic
   pub level : One level.Learnt rest answer-alone
   pub stands-alone : One stands-alone.Learnt rest answer-alone
@@ -178,8 +195,9 @@ pub record Determined : Type 0 where
   pub nos-convert-date : One nos-convert-date.Learnt (lent (lent (lent rest))) (answer-and (λ (time, (format, (buf, _))). buf))
   pub nos-read-unsigned : One nos-read-unsigned.Learnt (lent rest) answer-alone
   pub nos-check-table : One nos-check-table.Learnt (lent rest) answer-alone
-  pub nos-look-up : One nos-look-up.Learnt (lent (lent (lent rest))) answer-alone
+  pub nos-build-index : One nos-build-index.Learnt (lent (lent rest)) (answer-and (λ (table, (out, _)). out))
+  pub nos-look-up : One nos-look-up.Learnt (lent (lent (lent (lent rest)))) answer-alone
   pub nos-translate :
-      One nos-translate.Learnt (lent (lent (lent (plain (plain (lent rest))))))
-      (answer-and (λ (text, (farm, (house, (flags, (allowance, (out, _)))))). out))
+      One nos-translate.Learnt (lent (lent (lent (lent (plain (plain (plain (lent rest))))))))
+      (answer-and (λ (text, (farm, (house, (index, (indexed, (flags, (allowance, (out, _)))))))). out))
   pub nos-evaluate : One nos-evaluate.Learnt (lent (lent (lent rest))) answer-alone

@@ -6,20 +6,23 @@ use Prim.Native.Nat.{ℕ}
 use Prim.Native.String.{String}
 use lib.IntN.{ℤ, pos, negℤ}
 use lib.ListN.{length, drop}
-use Rattle.paper.specs.Answers.{in-text, in-house, in-farm, refusal}
-use Rattle.paper.specs.Refusals.{no-room, bad-base, too-deep, allowance-spent, bad-table, bad-expression, not-an-integer, over-length, bad-field}
+use Rattle.paper.specs.Answers.{in-text, in-house, in-farm, in-index, refusal}
+use Rattle.paper.specs.Refusals.{no-room, bad-base, too-deep, allowance-spent, bad-table, bad-expression, not-an-integer, over-length, bad-field, bad-index}
 use Rattle.paper.specs.Layings.{convertedAnswer}
 use Rattle.paper.specs.declared.layings.Converted.{Converted}
 use Rattle.reader.specs.Reading.{no-limit, readNumber, readPlace, readValue}
 use Rattle.reader.specs.declared.Reading.{Reading}
 use Rattle.records.specs.Records.{string-kind, integer-kind}
-use Rattle.variables.specs.Lookups.{foundNumber, foundCounted, foundPlace, foundKind}
-use Rattle.variables.specs.declared.both.Found.{Found}
+use Rattle.indexes.specs.Indexes.{no-index, index-of}
+use Rattle.indexes.specs.Buildings.{builtAnswer}
+use Rattle.indexes.specs.declared.building.Built.{Built}
+use Rattle.lookups.specs.Lookups.{foundNumber, foundCounted, foundPlace, foundKind}
+use Rattle.lookups.specs.declared.Found.{Found}
 use Rattle.gs.specs.Translations.{translatedAnswer}
 use Rattle.gs.specs.declared.Translated.{Translated}
 use Rattle.expressions.specs.Answers.{evaluatedNumber, evaluatedCounted, evaluatedPlace, evaluatedValue}
 use Rattle.expressions.specs.declared.Evaluated.{Evaluated}
-use Rattle.promises.specs.Allowed.{Converts, Dates, Reads, LooksUp, HandsBack, Translates, Evaluates}
+use Rattle.promises.specs.Allowed.{Converts, Dates, Reads, Builds, LooksUp, HandsBack, Translates, Evaluates}
 use Rattle.paper.specs.Texts.{bytes}
 
 pub data Row : Type 0 where
@@ -48,6 +51,17 @@ pub data Row : Type 0 where
   fails : (text : String) (farm house : List ℕ) (allowance number counted place : ℕ) → Row
   -- a name and two tables: what the record's place is counted in, the place, the kind, and the part that is handed back
   finds : (name : String) (farm house : List ℕ) (counted place kind : ℕ) (part : List ℕ) → Row
+  -- a table and a room: its index, and the room left
+  indexes : (table : List ℕ) (room : ℕ) (index : List ℕ) (free : ℕ) → Row
+  -- a table and a room that is too small for its index: the need
+  spares : (table : List ℕ) (room need : ℕ) → Row
+  -- a text, the house's table and its index, an allowance and a room, an empty farm's table and no flags: the bytes given, the place of the
+  -- text's end, and the room left
+  through : (text : String) (house index : List ℕ) (allowance room : ℕ) (given : List ℕ) (end free : ℕ) → Row
+  -- the same with an index that does not fit, and a name that is looked up through it
+  misfits : (text : String) (house index : List ℕ) (allowance room : ℕ) (name : String) → Row
+  -- a name, the house's table and its index: the record's place, the kind, and the part that is handed back
+  leads : (name : String) (house index : List ℕ) (place kind : ℕ) (part : List ℕ) → Row
 
 abbrev pub Holds : Row → Type 0
 Holds (writes call value room string offset need free) =
@@ -70,10 +84,10 @@ Holds (reads text value place) =
 Holds (refuses text number place) =
     (r : Reading) → Reads (bytes text) false no-limit r → (readNumber r ≡ number) × (readPlace r ≡ place)
 Holds (translates text farm house allowance room given end free) =
-    (out after : List ℕ) (r : Translated) → length out ≡ room → Translates (bytes text) farm house 0 allowance out r after
+    (out after : List ℕ) (r : Translated) → length out ≡ room → Translates (bytes text) farm house no-index 0 allowance out r after
     → (translatedAnswer r ≡ record { number = 0; counted = in-text; place = end; need = length given; free = free }) × (after ≡ given ++ drop (length given) out)
 Holds (stops text farm house allowance room number counted place) =
-    (out after : List ℕ) (r : Translated) → length out ≡ room → Translates (bytes text) farm house 0 allowance out r after
+    (out after : List ℕ) (r : Translated) → length out ≡ room → Translates (bytes text) farm house no-index 0 allowance out r after
     → (translatedAnswer r ≡ refusal number counted place room) × (after ≡ out)
 Holds (evaluates text farm house allowance value end) =
     (r : Evaluated) → Evaluates (bytes text) farm house allowance r
@@ -82,8 +96,25 @@ Holds (fails text farm house allowance number counted place) =
     (r : Evaluated) → Evaluates (bytes text) farm house allowance r
     → (evaluatedNumber r ≡ number) × (evaluatedCounted r ≡ counted) × (evaluatedPlace r ≡ place)
 Holds (finds name farm house counted place kind part) =
-    (r : Found) (handed : List ℕ) → LooksUp farm house (bytes name) r → HandsBack farm house (bytes name) handed
+    (r : Found) (handed : List ℕ) → LooksUp farm house no-index (bytes name) r → HandsBack farm house no-index (bytes name) handed
     → (foundNumber r ≡ 0) × (foundCounted r ≡ counted) × (foundPlace r ≡ place) × (foundKind r ≡ kind) × (handed ≡ part)
+Holds (indexes table room index free) =
+    (out after : List ℕ) (r : Built) → length out ≡ room → Builds table out r after
+    → (builtAnswer r ≡ record { number = 0; counted = in-text; place = 0; need = length index; free = free }) × (after ≡ index ++ drop (length index) out)
+Holds (spares table room need) =
+    (out after : List ℕ) (r : Built) → length out ≡ room → Builds table out r after
+    → (builtAnswer r ≡ record { number = no-room; counted = in-text; place = 0; need = need; free = room }) × (after ≡ out)
+Holds (through text house index allowance room given end free) =
+    (out after : List ℕ) (r : Translated) → length out ≡ room → Translates (bytes text) [] house (index-of index) 0 allowance out r after
+    → (translatedAnswer r ≡ record { number = 0; counted = in-text; place = end; need = length given; free = free }) × (after ≡ given ++ drop (length given) out)
+Holds (misfits text house index allowance room name) =
+    (out after : List ℕ) (r : Translated) (f : Found) → length out ≡ room → Translates (bytes text) [] house (index-of index) 0 allowance out r after
+    → LooksUp [] house (index-of index) (bytes name) f
+    → (translatedAnswer r ≡ refusal bad-index in-index 0 room) × (after ≡ out)
+    × (foundNumber f ≡ bad-index) × (foundCounted f ≡ in-index) × (foundPlace f ≡ 0)
+Holds (leads name house index place kind part) =
+    (r : Found) (handed : List ℕ) → LooksUp [] house (index-of index) (bytes name) r → HandsBack [] house (index-of index) (bytes name) handed
+    → (foundNumber r ≡ 0) × (foundCounted r ≡ in-house) × (foundPlace r ≡ place) × (foundKind r ≡ kind) × (handed ≡ part)
 
 abbrev pub All : List Row → Type 0
 All [] = Unit {0}
@@ -104,6 +135,17 @@ numbered-7 = 86 ∷ 82 ∷ 1 ∷ 1 ∷ 4 ∷ bytes "a" ++ (7 ∷ 0 ∷ 0 ∷ 0 �
 -- one record: the macro m, whose value is `<a>!`
 abbrev pub naming-a : List ℕ
 naming-a = 86 ∷ 82 ∷ 2 ∷ 1 ∷ 4 ∷ bytes "m<a>!"
+
+-- two records: the string A, whose value is `x`, and the string _, whose value is `y`. As a small letter the A comes behind the _
+abbrev pub letter-and-sign : List ℕ
+letter-and-sign = 86 ∷ 82 ∷ 0 ∷ 1 ∷ 1 ∷ bytes "Ax" ++ (86 ∷ 82 ∷ 0 ∷ 1 ∷ 1 ∷ bytes "_y")
+
+abbrev pub sign-first : List ℕ
+sign-first = 7 ∷ 0 ∷ 0 ∷ 0 ∷ []
+
+-- two records: the string ab, whose value is `x`, and the string a, whose value is `y`
+abbrev pub with-a-beginning : List ℕ
+with-a-beginning = 86 ∷ 82 ∷ 0 ∷ 2 ∷ 1 ∷ bytes "abx" ++ (86 ∷ 82 ∷ 0 ∷ 1 ∷ 1 ∷ bytes "ay")
 
 -- times of five bytes, by their days: 28 February 1900 in its last hundredth of a second and the next day in its first, the ends of 1999
 -- and of 2000, and 29 February 2000 at 12:34:56.78
@@ -178,6 +220,17 @@ examples =
     ∷ fails "a+1" named-x numbered-7 1 not-an-integer in-text 0
     ∷ finds "A" named-x numbered-7 in-farm 0 string-kind (bytes "x")
     ∷ finds "A" [] numbered-7 in-house 0 integer-kind (7 ∷ 0 ∷ 0 ∷ 0 ∷ [])
+    -- an index: the sign before the letter, a beginning before what goes on, an empty one, and a room that is one too small
+    ∷ indexes letter-and-sign 4 sign-first 0
+    ∷ indexes with-a-beginning 6 (8 ∷ 0 ∷ 0 ∷ 0 ∷ []) 2
+    ∷ indexes [] 0 [] 0
+    ∷ spares letter-and-sign 3 4
+    -- through it, both names; with its entries exchanged, or longer, it is refused, before a name that is unknown and where none is looked up
+    ∷ through "<_><a>" letter-and-sign sign-first 2 2 (bytes "yx") 6 0
+    ∷ leads "_" letter-and-sign sign-first 7 string-kind (bytes "y")
+    ∷ leads "a" letter-and-sign sign-first 0 string-kind (bytes "x")
+    ∷ misfits "<b>" letter-and-sign (0 ∷ 0 ∷ 7 ∷ 0 ∷ []) 1 1 "b"
+    ∷ misfits "" letter-and-sign (sign-first ++ (0 ∷ 0 ∷ [])) 0 0 "_"
     -- a house's macro uses a farm's name, and a farm's macro a house's: two look-ups
     ∷ translates "<m>" named-x naming-a 2 2 (bytes "x!") 3 0
     ∷ translates "<m>" naming-a named-x 2 2 (bytes "x!") 3 0

@@ -9,6 +9,7 @@ pub mod Dates
 pub mod Readings
 pub mod TwoTables
 pub mod Lookups
+pub mod Indexes
 pub mod Translations
 pub mod Evaluations
 pub mod Determined

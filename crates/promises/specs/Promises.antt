@@ -6,6 +6,7 @@ use Rattle.promises.specs.Dates as Dates
 use Rattle.promises.specs.Readings as Readings
 use Rattle.promises.specs.TwoTables as TwoTables
 use Rattle.promises.specs.Lookups as Lookups
+use Rattle.promises.specs.Indexes as Indexes
 use Rattle.promises.specs.Translations as Translations
 use Rattle.promises.specs.Evaluations as Evaluations
 use Rattle.promises.specs.Determined.{Determined}
@@ -73,10 +74,25 @@ pub record Promises : Type 0 where
   pub look-up-finds : Lookups.Finds
   pub look-up-hides : Lookups.Hides
   pub look-up-misses : Lookups.Misses
+  pub look-up-bad-index : Lookups.BadIndex
+  pub look-up-through : Lookups.Through
   pub look-up-inside : Lookups.Inside
   pub look-up-value-tied : Ties.LookUpValue
   pub look-up-value-one-part : Lookups.OnePart
   pub look-up-value-part : Lookups.Part
+  -- `build_index`, and an index beside the house's table
+  pub names-in-order : Indexes.Order
+  pub one-arrangement : Indexes.OneArrangement
+  pub build-tied : Ties.BuildIndex
+  pub build-one-answer : Indexes.OneAnswer
+  pub build-accepts : Indexes.Accepts
+  pub build-refusals : Indexes.Refusals
+  pub build-exact : Indexes.Exact
+  pub build-larger-room : Indexes.LargerRoom
+  pub build-second-ask : Indexes.SecondAsk
+  pub index-fits : Indexes.Fits
+  pub built-fits : Indexes.BuiltFits
+  pub search-by-halving : Indexes.ByHalving
   -- `translate`
   pub translate-tied : Ties.Translate
   pub translate-one-answer : Translations.OneAnswer
@@ -88,6 +104,8 @@ pub record Promises : Type 0 where
   pub translate-by-reading : Translations.ByReading
   pub translate-accepted : Translations.Accepted
   pub translate-over-length : Translations.OverLength
+  pub translate-bad-index : Translations.BadIndex
+  pub translate-through : Translations.Through
   pub translate-larger : Translations.Larger
   pub translate-no-room : Translations.NoRoom
   pub translate-need : Translations.Need
@@ -108,6 +126,7 @@ pub record Promises : Type 0 where
   pub nos-convert-date-tied : Ties.NosConvertDate
   pub nos-read-unsigned-tied : Ties.NosReadUnsigned
   pub nos-check-table-tied : Ties.NosCheckTable
+  pub nos-build-index-tied : Ties.NosBuildIndex
   pub nos-look-up-tied : Ties.NosLookUp
   pub nos-translate-tied : Ties.NosTranslate
   pub nos-evaluate-tied : Ties.NosEvaluate

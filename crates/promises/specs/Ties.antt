@@ -14,10 +14,14 @@ use Rattle.dates.proofs.convert_date.Reads as convert-date
 use Rattle.reader.proofs.read_unsigned.Reads as read-unsigned
 use Rattle.reader.specs.declared.Reading.{Reading}
 use Rattle.variables.proofs.check_table.Reads as check-table
-use Rattle.variables.proofs.both.look_up.Reads as look-up
-use Rattle.variables.proofs.both.look_up_value.Reads as look-up-value
+use Rattle.indexes.proofs.building.build_index.Reads as build-index
+use Rattle.indexes.specs.Indexes.{Given, givenBy}
+use Rattle.indexes.specs.Buildings.{builtAnswer}
+use Rattle.indexes.specs.declared.building.Built.{Built}
+use Rattle.lookups.proofs.look_up.Reads as look-up
+use Rattle.lookups.proofs.look_up_value.Reads as look-up-value
 use Rattle.variables.specs.declared.Checked.{Checked}
-use Rattle.variables.specs.declared.both.Found.{Found}
+use Rattle.lookups.specs.declared.Found.{Found}
 use Rattle.gs.proofs.translate.Reads as translate
 use Rattle.gs.specs.declared.Translated.{Translated}
 use Rattle.symbols.specs.declared.flags.Flags.{Flags}
@@ -31,16 +35,17 @@ use Rattle.nosgoludd.proofs.conversions.nos_convert.Reads as nos-convert
 use Rattle.nosgoludd.proofs.conversions.nos_convert_date.Reads as nos-convert-date
 use Rattle.nosgoludd.proofs.readings.nos_read_unsigned.Reads as nos-read-unsigned
 use Rattle.nosgoludd.proofs.checks.nos_check_table.Reads as nos-check-table
-use Rattle.nosgoludd.proofs.lookups.nos_look_up.Reads as nos-look-up
+use Rattle.nosgoludd.proofs.buildings.nos_build_index.Reads as nos-build-index
+use Rattle.nosgoludd.proofs.meanings.nos_look_up.Reads as nos-look-up
 use Rattle.nosgoludd.proofs.translations.nos_translate.Reads as nos-translate
 use Rattle.nosgoludd.proofs.evaluations.nos_evaluate.Reads as nos-evaluate
 use Rattle.nosgoludd.specs.Faces.{answerFace, readingFace, checkFace, foundFace, evaluationFace}
 use Rattle.nosgoludd.specs.declared.NosAnswer.{NosAnswer}
 use Rattle.nosgoludd.specs.declared.readings.NosNumber.{NosNumber}
 use Rattle.nosgoludd.specs.declared.checks.NosChecked.{NosChecked}
-use Rattle.nosgoludd.specs.declared.lookups.NosVariable.{NosVariable}
+use Rattle.nosgoludd.specs.declared.meanings.NosVariable.{NosVariable}
 use Rattle.nosgoludd.specs.declared.evaluations.NosValue.{NosValue}
-use Rattle.promises.specs.Allowed.{Converts, Dates, Reads, Checks, LooksUp, HandsBack, Translates, Evaluates}
+use Rattle.promises.specs.Allowed.{Converts, Dates, Reads, Checks, Builds, LooksUp, HandsBack, Translates, Evaluates}
 
 abbrev pub Convert : Type 0
 Convert =
@@ -60,21 +65,29 @@ ReadUnsigned =
 abbrev pub CheckTable : Type 0
 CheckTable = (κs : Lfts 1) (table : RefT (List ℕ)) (r : Checked) → check-table.Learnt κs (table, tt) r (table, tt) → Checks (now table) r
 
+abbrev pub BuildIndex : Type 0
+BuildIndex =
+    (κs : Lfts 2) (table out after : RefT (List ℕ)) (r : Built)
+    → build-index.Learnt κs (table, (out, tt)) r (table, (after, tt)) → Builds (now table) (now out) r (now after)
+
 abbrev pub LookUp : Type 0
 LookUp =
-    (κs : Lfts 2) (farm house name : RefT (List ℕ)) (r : Found)
-    → look-up.Learnt κs (farm, (house, (name, tt))) r (farm, (house, (name, tt))) → LooksUp (now farm) (now house) (now name) r
+    (κs : Lfts 3) (farm house index : RefT (List ℕ)) (indexed : Bool) (name : RefT (List ℕ)) (r : Found)
+    → look-up.Learnt κs (farm, (house, (index, (indexed, (name, tt))))) r (farm, (house, (index, (indexed, (name, tt)))))
+    → LooksUp (now farm) (now house) (givenBy indexed (now index)) (now name) r
 
 abbrev pub LookUpValue : Type 0
 LookUpValue =
-    (κs : Lfts 2) (farm house name r : RefT (List ℕ))
-    → look-up-value.Learnt κs (farm, (house, (name, tt))) r (farm, (house, (name, tt))) → HandsBack (now farm) (now house) (now name) (now r)
+    (κs : Lfts 3) (farm house index : RefT (List ℕ)) (indexed : Bool) (name r : RefT (List ℕ))
+    → look-up-value.Learnt κs (farm, (house, (index, (indexed, (name, tt))))) r (farm, (house, (index, (indexed, (name, tt)))))
+    → HandsBack (now farm) (now house) (givenBy indexed (now index)) (now name) (now r)
 
 abbrev pub Translate : Type 0
 Translate =
-    (κs : Lfts 3) (text farm house : RefT (List ℕ)) (flags : Flags) (allowance : ℕ) (out after : RefT (List ℕ)) (r : Translated)
-    → translate.Learnt κs (text, (farm, (house, (flags, (allowance, (out, tt)))))) r (text, (farm, (house, (flags, (allowance, (after, tt))))))
-    → Translates (now text) (now farm) (now house) (flags .0) allowance (now out) r (now after)
+    (κs : Lfts 4) (text farm house index : RefT (List ℕ)) (indexed : Bool) (flags : Flags) (allowance : ℕ) (out after : RefT (List ℕ)) (r : Translated)
+    → translate.Learnt κs (text, (farm, (house, (index, (indexed, (flags, (allowance, (out, tt)))))))) r
+    (text, (farm, (house, (index, (indexed, (flags, (allowance, (after, tt))))))))
+    → Translates (now text) (now farm) (now house) (givenBy indexed (now index)) (flags .0) allowance (now out) r (now after)
 
 abbrev pub Evaluate : Type 0
 Evaluate =
@@ -122,26 +135,42 @@ pub record FaceChecks (table : List ℕ) (r : NosChecked) : Type 0 where
 abbrev pub NosCheckTable : Type 0
 NosCheckTable = (κs : Lfts 1) (table : RefT (List ℕ)) (r : NosChecked) → nos-check-table.Learnt κs (table, tt) r (table, tt) → FaceChecks (now table) r
 
-pub record FaceLooksUp (farm house name : List ℕ) (r : NosVariable) : Type 0 where
+pub record FaceBuilds (table out : List ℕ) (r : NosAnswer) (after : List ℕ) : Type 0 where
+  pub answer : Built
+  pub allowed : Builds table out answer after
+  pub face : r ≡ answerFace (builtAnswer answer)
+
+abbrev pub NosBuildIndex : Type 0
+NosBuildIndex =
+    (κs : Lfts 2) (table out after : RefT (List ℕ)) (r : NosAnswer)
+    → nos-build-index.Learnt κs (table, (out, tt)) r (table, (after, tt)) → FaceBuilds (now table) (now out) r (now after)
+
+-- there is no index at 0, and one at every other number
+abbrev pub givenAt : ℕ → List ℕ → Given
+givenAt indexed index = givenBy (not (eqb indexed 0)) index
+
+pub record FaceLooksUp (farm house : List ℕ) (given : Given) (name : List ℕ) (r : NosVariable) : Type 0 where
   pub answer : Found
-  pub allowed : LooksUp farm house name answer
+  pub allowed : LooksUp farm house given name answer
   pub face : r ≡ foundFace answer
 
 abbrev pub NosLookUp : Type 0
 NosLookUp =
-    (κs : Lfts 2) (name farm house : RefT (List ℕ)) (r : NosVariable)
-    → nos-look-up.Learnt κs (name, (farm, (house, tt))) r (name, (farm, (house, tt))) → FaceLooksUp (now farm) (now house) (now name) r
+    (κs : Lfts 3) (name farm house index : RefT (List ℕ)) (indexed : ℕ) (r : NosVariable)
+    → nos-look-up.Learnt κs (name, (farm, (house, (index, (indexed, tt))))) r (name, (farm, (house, (index, (indexed, tt)))))
+    → FaceLooksUp (now farm) (now house) (givenAt indexed (now index)) (now name) r
 
-pub record FaceTranslates (text farm house : List ℕ) (flags allowance : ℕ) (out : List ℕ) (r : NosAnswer) (after : List ℕ) : Type 0 where
+pub record FaceTranslates (text farm house : List ℕ) (given : Given) (flags allowance : ℕ) (out : List ℕ) (r : NosAnswer) (after : List ℕ) : Type 0 where
   pub answer : Translated
-  pub allowed : Translates text farm house flags allowance out answer after
+  pub allowed : Translates text farm house given flags allowance out answer after
   pub face : r ≡ answerFace (translatedAnswer answer)
 
 abbrev pub NosTranslate : Type 0
 NosTranslate =
-    (κs : Lfts 3) (text farm house : RefT (List ℕ)) (flags allowance : ℕ) (out after : RefT (List ℕ)) (r : NosAnswer)
-    → nos-translate.Learnt κs (text, (farm, (house, (flags, (allowance, (out, tt)))))) r (text, (farm, (house, (flags, (allowance, (after, tt))))))
-    → FaceTranslates (now text) (now farm) (now house) flags allowance (now out) r (now after)
+    (κs : Lfts 4) (text farm house index : RefT (List ℕ)) (indexed flags allowance : ℕ) (out after : RefT (List ℕ)) (r : NosAnswer)
+    → nos-translate.Learnt κs (text, (farm, (house, (index, (indexed, (flags, (allowance, (out, tt)))))))) r
+    (text, (farm, (house, (index, (indexed, (flags, (allowance, (after, tt))))))))
+    → FaceTranslates (now text) (now farm) (now house) (givenAt indexed (now index)) flags allowance (now out) r (now after)
 
 pub record FaceEvaluates (text farm house : List ℕ) (allowance : ℕ) (r : NosValue) : Type 0 where
   pub answer : Evaluated
@@ -166,17 +195,22 @@ pub record Any : Type 0 where
   pub convert-date : (κs : Lfts 3) (time format buf : RefT (List ℕ)) → convert-date.Asked κs (time, (format, (buf, tt)))
   pub read-unsigned : (κs : Lfts 1) (text : RefT (List ℕ)) (whole : Bool) (limit : ℕ) → read-unsigned.Asked κs (text, (whole, (limit, tt)))
   pub check-table : (κs : Lfts 1) (table : RefT (List ℕ)) → check-table.Asked κs (table, tt)
-  pub look-up : (κs : Lfts 2) (farm house name : RefT (List ℕ)) → look-up.Asked κs (farm, (house, (name, tt)))
-  pub look-up-value : (κs : Lfts 2) (farm house name : RefT (List ℕ)) → look-up-value.Asked κs (farm, (house, (name, tt)))
-  pub translate : (κs : Lfts 3) (text farm house : RefT (List ℕ)) (flags : Flags) (allowance : ℕ) (out : RefT (List ℕ))
-      → translate.Asked κs (text, (farm, (house, (flags, (allowance, (out, tt))))))
+  pub build-index : (κs : Lfts 2) (table out : RefT (List ℕ)) → build-index.Asked κs (table, (out, tt))
+  pub look-up : (κs : Lfts 3) (farm house index : RefT (List ℕ)) (indexed : Bool) (name : RefT (List ℕ))
+      → look-up.Asked κs (farm, (house, (index, (indexed, (name, tt)))))
+  pub look-up-value : (κs : Lfts 3) (farm house index : RefT (List ℕ)) (indexed : Bool) (name : RefT (List ℕ))
+      → look-up-value.Asked κs (farm, (house, (index, (indexed, (name, tt)))))
+  pub translate : (κs : Lfts 4) (text farm house index : RefT (List ℕ)) (indexed : Bool) (flags : Flags) (allowance : ℕ) (out : RefT (List ℕ))
+      → translate.Asked κs (text, (farm, (house, (index, (indexed, (flags, (allowance, (out, tt))))))))
   pub evaluate : (κs : Lfts 2) (text farm house : RefT (List ℕ)) (allowance : ℕ) → evaluate.Asked κs (text, (farm, (house, (allowance, tt))))
   pub nos-convert : (κs : Lfts 1) (call value : ℕ) (buf : RefT (List ℕ)) → nos-convert.Asked κs (call, (value, (buf, tt)))
   pub nos-convert-date : (κs : Lfts 3) (time format buf : RefT (List ℕ)) → nos-convert-date.Asked κs (time, (format, (buf, tt)))
   pub nos-read-unsigned : (κs : Lfts 1) (text : RefT (List ℕ)) (whole limit : ℕ) → nos-read-unsigned.Asked κs (text, (whole, (limit, tt)))
   pub nos-check-table : (κs : Lfts 1) (table : RefT (List ℕ)) → nos-check-table.Asked κs (table, tt)
-  pub nos-look-up : (κs : Lfts 2) (name farm house : RefT (List ℕ)) → nos-look-up.Asked κs (name, (farm, (house, tt)))
-  pub nos-translate : (κs : Lfts 3) (text farm house : RefT (List ℕ)) (flags allowance : ℕ) (out : RefT (List ℕ))
-      → nos-translate.Asked κs (text, (farm, (house, (flags, (allowance, (out, tt))))))
+  pub nos-build-index : (κs : Lfts 2) (table out : RefT (List ℕ)) → nos-build-index.Asked κs (table, (out, tt))
+  pub nos-look-up : (κs : Lfts 3) (name farm house index : RefT (List ℕ)) (indexed : ℕ)
+      → nos-look-up.Asked κs (name, (farm, (house, (index, (indexed, tt)))))
+  pub nos-translate : (κs : Lfts 4) (text farm house index : RefT (List ℕ)) (indexed flags allowance : ℕ) (out : RefT (List ℕ))
+      → nos-translate.Asked κs (text, (farm, (house, (index, (indexed, (flags, (allowance, (out, tt))))))))
   pub nos-evaluate : (κs : Lfts 2) (text farm house : RefT (List ℕ)) (allowance : ℕ) → nos-evaluate.Asked κs (text, (farm, (house, (allowance, tt))))
   pub program : (κs : Lfts 2) (text out : RefT (List ℕ)) → program.Asked κs (text, (out, tt))

@@ -36,11 +36,11 @@ pub same-end : (a b : List ℕ) (at : ℕ) → length a ≤ at → length b ≤ 
 unfolding sameName
 same-end a b at h k = rw (drop-of-length-le a {i = at} h, drop-of-length-le b {i = at} k)
 
-same-bytes : (a : List ℕ) → sameBytes a a ≡ true
+pub same-bytes : (a : List ℕ) → sameBytes a a ≡ true
 same-bytes [] = refl
 same-bytes (x ∷ xs) = rw (eq-eqb x x refl) (same-bytes xs)
 
-bytes-same : (a b : List ℕ) → sameBytes a b ≡ true → a ≡ b
+pub bytes-same : (a b : List ℕ) → sameBytes a b ≡ true → a ≡ b
 bytes-same [] [] e = refl
 bytes-same [] (y ∷ ys) e = absurd (false≢true e)
 bytes-same (x ∷ xs) [] e = absurd (false≢true e)
@@ -53,7 +53,7 @@ pub folded : (a b : List ℕ) → sameName a b ≡ true → map small a ≡ map 
 unfolding sameName
 folded a b e = bytes-same (map small a) (map small b) e
 
-unfolded : (a b : List ℕ) → map small a ≡ map small b → sameName a b ≡ true
+pub unfolded : (a b : List ℕ) → map small a ≡ map small b → sameName a b ≡ true
 unfolding sameName
 unfolded a b e = rw e (same-bytes (map small b))
 

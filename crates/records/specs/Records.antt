@@ -1,8 +1,9 @@
--- A record of a table: its format, its parts by the place where its mark starts, and when it has a record's shape; equal names.
+-- A record of a table: its format, its parts by the place where its mark starts, and when it has a record's shape; equal names, and the
+-- order of names.
 use mathlib.Core.Bool.{Bool, true, false, cond, not, _&&_, _||_}
 use mathlib.Core.List.{List, [], _∷_, _++_, map}
 use Prim.Native.Nat.{ℕ, _+_}
-use lib.Dec.{leb, eqb}
+use lib.Dec.{leb, ltb, eqb}
 use lib.ListN.{length, getD, take, drop}
 use Rattle.paper.specs.Bytes.{nameByte}
 
@@ -86,3 +87,13 @@ sameBytes (x ∷ xs) (y ∷ ys) = eqb x y && sameBytes xs ys
 -- names are equal when they differ only in the case of A to Z
 unfoldable pub sameName : List ℕ → List ℕ → Bool
 sameName a b = sameBytes (map small a) (map small b)
+
+abbrev pub lessBytes : List ℕ → List ℕ → Bool
+lessBytes [] [] = false
+lessBytes [] (y ∷ ys) = true
+lessBytes (x ∷ xs) [] = false
+lessBytes (x ∷ xs) (y ∷ ys) = ltb x y || (eqb x y && lessBytes xs ys)
+
+-- names stand in the order of their bytes, with A to Z as a to z, a proper beginning first
+unfoldable pub comesBefore : List ℕ → List ℕ → Bool
+comesBefore a b = lessBytes (map small a) (map small b)

@@ -1,9 +1,9 @@
-// The bytes of a name: which ones are allowed, and when two names are equal.
+// The bytes of a name: which ones are allowed, when two names are equal, and which of two comes first.
 ghost use mathlib.Core.Path.{_≡_};
 ghost use Prim.Native.Nat.{_<_};
 ghost use lib.Dec.{eqb};
 ghost use Rattle.records.specs.inner.Keys.{keyOf};
-ghost use Rattle.records.specs.Records.{allNameBytes, small, sameName};
+ghost use Rattle.records.specs.Records.{allNameBytes, small, sameName, comesBefore};
 use paper::bytes::is_name_byte;
 
 pub(crate) fn all_name_bytes(name: &[u8]) -> bool
@@ -56,7 +56,7 @@ fn is_alike(x: u8, y: u8) -> bool
     small(x) == small(y)
 }
 
-// The only place where names are compared: their lengths first, then their bytes, up to the first two that differ.
+// The only place where names are tested for equality: their lengths first, then their bytes, up to the first two that differ.
 pub fn same_name(a: &[u8], b: &[u8]) -> bool
     ensures { λ r. ⌜ r ≡ sameName (now (a .entry)) (now (b .entry)) ⌝ }
 {
@@ -73,4 +73,22 @@ pub fn same_name(a: &[u8], b: &[u8]) -> bool
         }
     }
     true
+}
+
+// The only place where names are put in order: by the first two bytes that are not alike, a proper beginning before what goes on.
+pub fn comes_before(a: &[u8], b: &[u8]) -> bool
+    ensures { λ r. ⌜ r ≡ comesBefore (now (a .entry)) (now (b .entry)) ⌝ }
+{
+    let mut at = 0;
+    while at < a.len() {
+        if at == b.len() {
+            return false;
+        }
+        if is_alike(a[at], b[at]) {
+            at += 1;
+        } else {
+            return small(a[at]) < small(b[at]);
+        }
+    }
+    a.len() < b.len()
 }

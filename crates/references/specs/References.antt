@@ -1,4 +1,4 @@
--- What a content stands for: a number, or what a look-up answers, whether that goes through the tables or by some keys.
+-- What a content stands for: a number, or what a look-up answers, whether that goes through the tables or by some keys and an index.
 use mathlib.Core.Bool.{true, cond}
 use mathlib.Core.List.{List}
 use Prim.Native.Nat.{ℕ, _%_}
@@ -8,9 +8,10 @@ use Rattle.reader.specs.Reading.{reading, no-limit}
 use Rattle.reader.specs.declared.Reading.{Reading}
 use Rattle.reader.specs.declared.Reading.the-variants.{Value, Refused}
 use Rattle.variables.specs.Holdings.{Holding, soughtInBoth}
-use Rattle.variables.specs.inner.Keys.{soughtBy, matchAs}
+use Rattle.variables.specs.inner.Keys.{matchAs}
 use Rattle.variables.specs.declared.Match.{Match}
 use Rattle.variables.specs.declared.Match.the-variants.{Record, Missing}
+use Rattle.lookups.specs.inner.Through.{soughtThrough}
 use Rattle.records.specs.declared.Variable.{Variable}
 use Rattle.records.specs.declared.kinds.Kind.{Kind}
 use Rattle.records.specs.declared.kinds.Kind.the-variants as Kinds
@@ -40,6 +41,6 @@ referredTo farm house sought name = referredAs (reading name true no-limit) (mat
 unfoldable pub referredIn : List ℕ → List ℕ → List ℕ → Referred
 referredIn farm house name = referredTo farm house (soughtInBoth farm house name) name
 
--- and by some keys, whatever their lines are
-unfoldable pub referredBy : List ℕ → List ℕ → List ℕ → List ℕ → Referred
-referredBy farm house keys name = referredTo farm house (soughtBy farm house keys name) name
+-- and by some keys and an index, whatever these are
+unfoldable pub referredBy : List ℕ → List ℕ → List ℕ → List ℕ → List ℕ → Referred
+referredBy farm house keys index name = referredTo farm house (soughtThrough farm house keys index name) name

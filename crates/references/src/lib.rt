@@ -4,16 +4,17 @@ ghost use mathlib.Core.Bool.{cond};
 ghost use lib.Dec.{eqb};
 ghost use Rattle.paper.specs.Refusals.{«too-big»};
 ghost use Rattle.reader.specs.Reading.{readNumber};
-ghost use Rattle.variables.specs.inner.Keys.{soughtBy, matchAs};
+ghost use Rattle.variables.specs.inner.Keys.{matchAs};
+ghost use Rattle.lookups.specs.inner.Through.{soughtThrough};
 ghost use Rattle.references.specs.References.{kinded, matchedAs, referredBy};
 ghost use Rattle.references.specs.declared.Referred.the-variants as Referred;
+use lookups::find;
 use paper::TOO_BIG;
 use reader::NO_LIMIT;
 use reader::Reading;
 use records::Variable;
 use records::kinds::Kind;
 use variables::Match;
-use variables::keys::find;
 
 // What a reference's content stands for.
 pub enum Referred {
@@ -55,13 +56,14 @@ fn as_name<'a>(
     farm: &'a [u8],
     house: &'a [u8],
     keys: &[u32],
+    index: &[u8],
 ) -> Referred
-    ensures { λ r. ⌜ r ≡ cond (eqb number «too-big») Referred.TooBig (matchedAs (matchAs (now (farm .entry)) (now (house .entry)) (soughtBy (now (farm .entry)) (now (house .entry)) (now (keys .entry)) (now (content .entry))))) ⌝ }
+    ensures { λ r. ⌜ r ≡ cond (eqb number «too-big») Referred.TooBig (matchedAs (matchAs (now (farm .entry)) (now (house .entry)) (soughtThrough (now (farm .entry)) (now (house .entry)) (now (keys .entry)) (now (index .entry)) (now (content .entry))))) ⌝ }
 {
     if number == TOO_BIG {
         return Referred::TooBig;
     }
-    as_matched(find(farm, house, keys, content))
+    as_matched(find(farm, house, keys, index, content))
 }
 
 fn refusal_of(answer: Reading) -> u8
@@ -73,13 +75,20 @@ fn refusal_of(answer: Reading) -> u8
     }
 }
 
-// What the content of a reference stands for, over two tables and some keys: a value becomes a byte, otherwise it goes the name path.
-pub fn resolve<'a>(content: &[u8], farm: &'a [u8], house: &'a [u8], keys: &[u32]) -> Referred
-    ensures { λ r. ⌜ r ≡ referredBy (now (farm .entry)) (now (house .entry)) (now (keys .entry)) (now (content .entry)) ⌝ }
+// What the content of a reference stands for, over two tables, some keys and an index: a value becomes a byte, otherwise it goes the name
+// path.
+pub fn resolve<'a>(
+    content: &[u8],
+    farm: &'a [u8],
+    house: &'a [u8],
+    keys: &[u32],
+    index: &[u8],
+) -> Referred
+    ensures { λ r. ⌜ r ≡ referredBy (now (farm .entry)) (now (house .entry)) (now (keys .entry)) (now (index .entry)) (now (content .entry)) ⌝ }
 {
     let answer = reader::read_unsigned(content, true, NO_LIMIT);
     let Reading::Value(n) = answer else {
-        return as_name(refusal_of(answer), content, farm, house, keys);
+        return as_name(refusal_of(answer), content, farm, house, keys, index);
     };
     Referred::Number((n.value % 256) as u8)
 }

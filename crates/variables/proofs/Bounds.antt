@@ -20,10 +20,8 @@ use Rattle.variables.specs.Tables as Tables
 use Rattle.variables.specs.Tables.{most, Sought, absent, present, sound, scanned, scan, checked, recordsOf, soughtIn, checkNumber, checkPlace, checkCount, checkNumbers}
 use Rattle.variables.specs.Holdings.{heldBy, Holding, nowhere, held, heldIn, orElse, soughtInBoth}
 use Rattle.variables.specs.Judgements.{badTable, judged}
-use Rattle.variables.specs.Lookups.{foundAs, foundBy, lookedUp, foundNumber, foundPlace, foundKind, foundLength, lookUpNumbers}
 use Rattle.variables.specs.declared.Checked.{Checked}
 use Rattle.variables.specs.declared.Checked.the-variants.{Good, BadTable}
-use Rattle.variables.specs.declared.both.Found.{Found}
 use Rattle.variables.specs.declared.both.Judged.{Judged}
 use Rattle.variables.specs.declared.both.Judged.the-variants.{Good as AllGood, BadTable as OneBad}
 use Rattle.variables.proofs.Good.{Laid, laid, wholes}
@@ -103,25 +101,6 @@ over-length-exactly table =
     (λ e. (λ _. ltb-true longest (length table) e, λ _. refl))
     (λ e. (λ h. absurd (scanned-short table most 0 0 h), λ h. absurd (omega (arith, h, ltb-false longest (length table) e))))
 
-pub record FoundBounded (r : Found) : Type 0 where
-  pub number : foundNumber r ≤ 255
-  pub place : foundPlace r ≤ longest
-  pub kind : foundKind r ≤ 2
-  pub listed : List·Memᴰ (foundNumber r) lookUpNumbers
-
--- a look-up in a table that is known to be good
-in-good :
-    {n : ℕ} (holder : Holder) (farm house name : List ℕ) → Laid (heldBy holder farm house) n → (second : Holding) →
-    FoundBounded (foundAs farm house second) →
-    FoundBounded (foundAs farm house (orElse (heldIn holder (soughtIn (heldBy holder farm house) name)) second))
-in-good holder farm house name l second b = go (soughtIn (heldBy holder farm house) name) refl where
-  go : (m : Sought) → soughtIn (heldBy holder farm house) name ≡ m → FoundBounded (foundAs farm house (orElse (heldIn holder m) second))
-  go absent q = b
-  go (present e) q =
-      let w = wholes l (found (recordsOf (heldBy holder farm house)) name q .0) in
-      let s = l .short in
-      record { number = omega arith; place = omega arith; kind = kind-bounded (kindOf (e .kind)); listed = head refl }
-
 -- the judgement of any bytes. A refusal has a number that is neither that of No room nor of Allowance spent
 abbrev pub Within : Judged → Type 0
 Within (AllGood count) = count ≤ most + most
@@ -151,24 +130,6 @@ judged-within farm house = go (judged-case farm house)
 pub bad-number : (farm house : List ℕ) (number : ℕ) (holder : Holder) (place : ℕ) → judged farm house ≡ badTable number holder place → allowance-spent < number
 bad-number farm house number holder place e = subst Within e (judged-within farm house) .3
 
--- a look-up in any bytes
-pub looked-up-bounded : (farm house name : List ℕ) → FoundBounded (lookedUp farm house name)
-unfolding lookedUp
-looked-up-bounded farm house name = go (judged farm house) refl
-  where
-    unknown : FoundBounded (foundAs farm house nowhere)
-    unknown = record { number = omega arith; place = omega arith; kind = omega arith; listed = tail (tail (tail (head refl))) }
-
-    go : (r : Judged) → judged farm house ≡ r → FoundBounded (foundBy farm house name r)
-    go (OneBad number holder at) e =
-        let w = subst Within e (judged-within farm house) in
-        record { number = w .0; place = w .1; kind = omega arith; listed = Memᴰ·append-left (unknown-name ∷ []) (w .2) }
-    go (AllGood count) e =
-        let g = both-are farm house e in
-        in-good Farm farm house name (laid farm (g .farm-good)) (heldIn House (soughtIn house name))
-        (subst (λ h. FoundBounded (foundAs farm house h)) (or-nowhere (heldIn House (soughtIn house name)))
-        (in-good House farm house name (laid house (g .house-good)) nowhere unknown))
-
 -- the bytes of two tables are bytes
 abbrev pub AllBytes : List ℕ → List ℕ → Type 0
 AllBytes farm house = (holder : Holder) (k : ℕ) → getD (heldBy holder farm house) k 0 ≤ 255
@@ -176,16 +137,3 @@ AllBytes farm house = (holder : Holder) (k : ℕ) → getD (heldBy holder farm h
 pub all-bytes : (farm house : List ℕ) → ((k : ℕ) → getD farm k 0 ≤ 255) → ((k : ℕ) → getD house k 0 ≤ 255) → AllBytes farm house
 all-bytes farm house f h Farm k = f k
 all-bytes farm house f h House k = h k
-
--- so a value that is found has 255 of them at most
-pub value-short : (farm house name : List ℕ) → AllBytes farm house → foundLength (lookedUp farm house name) ≤ 255
-unfolding lookedUp
-value-short farm house name bytes = by-judged (judged farm house)
-  where
-    sought-short : (h : Holding) → foundLength (foundAs farm house h) ≤ 255
-    sought-short nowhere = omega arith
-    sought-short (held holder e) = bytes holder (e .place + 4)
-
-    by-judged : (r : Judged) → foundLength (foundBy farm house name r) ≤ 255
-    by-judged (AllGood count) = sought-short (soughtInBoth farm house name)
-    by-judged (OneBad number holder at) = omega arith

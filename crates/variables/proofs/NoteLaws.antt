@@ -16,10 +16,10 @@ use lib.Seq.{getD-set-same, getD-set-other, getD-take, length-take-le}
 use Rattle.variables.specs.inner.Notes.{wordOf, noted, withNote, AllNoted}
 
 -- a bit of two numbers that are joined
-joined : (a b bit : ℕ) → bitOr a b / 2 ^ bit % 2 ≡ max (a / 2 ^ bit % 2) (b / 2 ^ bit % 2)
+pub joined : (a b bit : ℕ) → bitOr a b / 2 ^ bit % 2 ≡ max (a / 2 ^ bit % 2) (b / 2 ^ bit % 2)
 joined a b bit = rw (or-shr a b bit) (omega (arith, or-step (a / 2 ^ bit) (b / 2 ^ bit)))
 
-own-bit : (bit : ℕ) → 2 ^ bit / 2 ^ bit % 2 ≡ 1
+pub own-bit : (bit : ℕ) → 2 ^ bit / 2 ^ bit % 2 ≡ 1
 own-bit bit = ap (λ n. n / 2 ^ bit % 2) (sym (one-mul (2 ^ bit))) ∙ ap (λ n. n % 2) (shl-shr 1 bit)
 
 -- one line more is noted

@@ -1,9 +1,11 @@
--- Two tables: which of them holds a record, and where a name is looked for first.
+-- Two tables: which of them holds a record, where a name is looked for first, and the value of what was found.
 use mathlib.Core.List.{List}
 use Prim.Native.Nat.{ℕ}
+use lib.ListN.{take, drop}
 use Rattle.paper.specs.declared.Holder.{Holder}
 use Rattle.paper.specs.declared.Holder.the-variants.{Farm, House}
 use Rattle.records.specs.Records.{Entry}
+use Rattle.records.specs.declared.Variable.{Variable}
 use Rattle.variables.specs.Tables.{Sought, absent, present, soughtIn}
 
 -- that one of the two, the farm's and the house's
@@ -27,3 +29,7 @@ orElse (held holder e) second = held holder e
 -- the record of two good tables that a name means: the farm's if there is one, else the house's
 abbrev pub soughtInBoth : List ℕ → List ℕ → List ℕ → Holding
 soughtInBoth farm house name = orElse (heldIn Farm (soughtIn farm name)) (heldIn House (soughtIn house name))
+
+-- the part of whichever table holds a variable that is its value
+abbrev pub partOf : List ℕ → List ℕ → Variable → List ℕ
+partOf farm house v = take (v .length) (drop (v .start) (heldBy (v .holder) farm house))

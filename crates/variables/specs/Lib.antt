@@ -4,5 +4,4 @@ pub mod Tables
 pub mod Holdings
 pub mod Names
 pub mod Judgements
-pub mod Lookups
 pub mod inner

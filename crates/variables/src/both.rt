@@ -1,17 +1,16 @@
-// Two tables, the farm's own before the house's: are they good, and what does a name mean in them.
+// Two tables, the farm's own before the house's: are they good, the lines by which names are looked up in them, and the values of
+// variables.
 ghost use mathlib.Core.Path.{_≡_};
 ghost use Prim.Native.Nat.{_+_, _≤_};
 ghost use lib.ListN.{length};
 ghost use Rattle.paper.specs.Refusals.{longest};
 ghost use Rattle.paper.specs.declared.Holder.the-variants.{House};
 ghost use Rattle.variables.specs.Tables.{most, scan};
+ghost use Rattle.variables.specs.Holdings.{partOf};
 ghost use Rattle.variables.specs.Judgements.{badTable, scannedThen, behindOwn, scannedBoth, judged};
-ghost use Rattle.variables.specs.Lookups.{partOf, lookedUp, valuePart};
-ghost use Rattle.variables.specs.inner.Keys.{laidOver, passedLines, bothLines, judgedLines, inGoodTables};
+ghost use Rattle.variables.specs.inner.Keys.{laidOver, passedLines, bothLines, judgedLines};
 use crate::Checked;
 use crate::MOST_RECORDS;
-use crate::Match;
-use crate::keys::find;
 use crate::keys::table_of;
 use crate::scan;
 use paper::Holder;
@@ -34,17 +33,6 @@ pub enum Judged {
     // So many records in both.
     Good(usize),
     // The table that is not good, and the place in it.
-    BadTable {
-        number: u8,
-        holder: Holder,
-        at: RecordPlace,
-    },
-}
-
-pub enum Found {
-    At(Variable),
-    Unknown,
-    // A table is not good.
     BadTable {
         number: u8,
         holder: Holder,
@@ -97,28 +85,6 @@ fn scan_house(own: usize, house: &[u8], keys: &mut [u32]) -> Judged
     }
 }
 
-// What a name means in any bytes: tables that are not good are refused first.
-pub fn look_up<'a>(farm: &'a [u8], house: &'a [u8], name: &[u8]) -> Found
-    ensures { λ r. ⌜ r ≡ lookedUp (now (farm .entry)) (now (house .entry)) (now (name .entry)) ⌝ }
-{
-    let mut keys = NO_KEYS;
-    let judged = key_tables(farm, house, &mut keys);
-    let lines: &[u32] = &keys;
-    match judged {
-        Judged::Good(count) => as_found(find(farm, house, &lines[0..count], name)),
-        Judged::BadTable { number, holder, at } => Found::BadTable { number, holder, at },
-    }
-}
-
-fn as_found(m: Match) -> Found
-    ensures { λ r. ⌜ r ≡ inGoodTables m ⌝ }
-{
-    match m {
-        Match::Record(v) => Found::At(v),
-        Match::Missing => Found::Unknown,
-    }
-}
-
 // The value of a variable that was found in these tables, as a part of the one that holds it. Of other tables it is what lies at that
 // place, cut at the slice's end.
 pub fn value_of<'a>(farm: &'a [u8], house: &'a [u8], v: Variable) -> &'a [u8]
@@ -128,20 +94,4 @@ pub fn value_of<'a>(farm: &'a [u8], house: &'a [u8], v: Variable) -> &'a [u8]
     let start = v.start;
     let length = v.length;
     records::part(table_of(farm, house, holder), start, length)
-}
-
-// The value that a name has, as that part of whichever table holds it; an empty part where the name is unknown or a table is not good.
-// `look_up` tells these apart from an empty value.
-pub fn look_up_value<'a>(farm: &'a [u8], house: &'a [u8], name: &[u8]) -> &'a [u8]
-    ensures { λ r. ⌜ now r ≡ valuePart (now (farm .entry)) (now (house .entry)) (lookedUp (now (farm .entry)) (now (house .entry)) (now (name .entry))) ⌝ }
-{
-    match look_up(farm, house, name) {
-        Found::At(v) => value_of(farm, house, v),
-        Found::Unknown => &house[..0],
-        Found::BadTable {
-            number: _,
-            holder: _,
-            at: _,
-        } => &house[..0],
-    }
 }

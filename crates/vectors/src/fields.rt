@@ -13,7 +13,7 @@ const LARGEST: u64 = 4294967295;
 const MOST_DIGITS: usize = 140000;
 
 // Whether a line has the fields of a form, where `N` stands for a number, `F` for 0 or 1, `R` for a number of bytes that can be lent,
-// `L` for a number or "-", `B` for bytes in hex or "-", and another word for itself.
+// `L` for a number or "-", `B` for bytes in hex or "-", `X` for such bytes or "x", and another word for itself.
 pub(crate) fn fit(line: &[u8], form: &[u8]) -> bool {
     let mut index = 0;
     while index < form.len() {
@@ -38,12 +38,23 @@ fn is_a(s: &[u8], kind: &[u8]) -> bool {
         b'R' => value(s) <= frame::MOST as u64,
         b'L' => is_dash(s) || value(s) <= LARGEST,
         b'B' => is_bytes(s),
+        b'X' => is_none(s) || is_bytes(s),
         _ => slices::same(s, kind),
     }
 }
 
 fn is_dash(s: &[u8]) -> bool {
     slices::same(s, b"-")
+}
+
+// Stands for an index that is not given.
+fn is_none(s: &[u8]) -> bool {
+    slices::same(s, b"x")
+}
+
+// Whether a field that may be "x" is something else.
+pub(crate) fn is_given(line: &[u8], index: usize) -> bool {
+    !is_none(slices::piece(line, b' ', index))
 }
 
 fn is_bytes(s: &[u8]) -> bool {

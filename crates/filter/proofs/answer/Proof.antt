@@ -32,6 +32,13 @@ returns-3 c =
     line-answer (s .args .text .now) _ _ (s .args .out .now) refl (t .before .before .none .ensures) (room (t .before)) _ _ refl (t .translate .ensures .1)
     (t .translate .ensures .0) (c .before .before .before .translated3 .given .1) (c .refusal2 .ensures)
 
+returns-4 : tie.Need-returns-4
+returns-4 c =
+    let t = c .before .before .before .before in
+    let s = t .before .before .before .before .before in
+    line-answer (s .args .text .now) _ _ (s .args .out .now) refl (t .before .before .none .ensures) (room (t .before)) _ _ refl (t .translate .ensures .1)
+    (t .translate .ensures .0) (c .before .before .enum-told .given .1) (c .refusal3 .ensures)
+
 pub answer-spec : {M : Type 1} → statement M
 answer-spec =
     tie.close
@@ -46,6 +53,9 @@ answer-spec =
     (λ c κs. search needs)
     (λ c. search needs)
     (λ c κs. search needs)
+    (λ c. search needs)
+    (λ c κs. search needs)
     returns
     returns-2
-    returns-3)
+    returns-3
+    returns-4)

@@ -11,7 +11,7 @@ use Rattle.reader.specs.Reading.{reading}
 use Rattle.reader.specs.declared.Reading.the-variants.{Refused}
 use Rattle.records.specs.Kinds.{pattern}
 use Rattle.records.specs.declared.kinds.Kind.the-variants as Kinds
-use Rattle.variables.specs.Lookups.{partOf}
+use Rattle.variables.specs.Holdings.{partOf}
 use Rattle.gs.specs.Readings.{Expand, givesAll}
 use Rattle.references.specs.declared.Referred.{Referred}
 use Rattle.references.specs.declared.Referred.the-variants.{Number, TooBig, Unknown, Text, Integer, Macro}

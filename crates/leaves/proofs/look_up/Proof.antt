@@ -9,7 +9,7 @@ use Rattle.records.specs.Kinds.{pattern}
 use Rattle.records.specs.declared.Variable.{Variable}
 use Rattle.records.specs.declared.kinds.Kind.{Kind}
 use Rattle.records.specs.declared.kinds.Kind.the-variants.{Text, Integer, Macro}
-use Rattle.variables.specs.Lookups.{partOf}
+use Rattle.variables.specs.Holdings.{partOf}
 use Rattle.variables.specs.inner.Keys.{soughtBy, matchAs}
 use Rattle.variables.specs.declared.Match.{Match}
 use Rattle.variables.specs.declared.Match.the-variants.{Record, Missing}

@@ -10,32 +10,33 @@ use Rattle.reader.specs.Reading.{reading, no-limit, readNumber}
 use Rattle.reader.specs.declared.Number.{Number as Valued}
 use Rattle.reader.specs.declared.Reading.{Reading}
 use Rattle.reader.specs.declared.Reading.the-variants.{Value, Refused}
-use Rattle.variables.specs.inner.Keys.{soughtBy, matchAs}
+use Rattle.variables.specs.inner.Keys.{matchAs}
+use Rattle.lookups.specs.inner.Through.{soughtThrough}
 use Rattle.references.specs.References.{matchedAs, referredAs, referredBy}
 use Rattle.references.specs.declared.Referred.{Referred}
 use Rattle.references.specs.declared.Referred.the-variants.{Number, TooBig}
 use Rattle.references.proofs.resolve.Statement.{statement}
 use Rattle.references.proofs.resolve.Tie as tie
 
-by-name : (name farm house keys : List ℕ) (answer : Reading) (x : ℕ) (y : _) (number : ℕ) (r : Referred)
+by-name : (name farm house keys index : List ℕ) (answer : Reading) (x : ℕ) (y : _) (number : ℕ) (r : Referred)
     → answer ≡ reading name true no-limit → answer ≡ Refused x y → number ≡ readNumber answer
-    → r ≡ cond (eqb number too-big) TooBig (matchedAs (matchAs farm house (soughtBy farm house keys name))) → r ≡ referredBy farm house keys name
+    → r ≡ cond (eqb number too-big) TooBig (matchedAs (matchAs farm house (soughtThrough farm house keys index name))) → r ≡ referredBy farm house keys index name
 unfolding referredBy
-by-name name farm house keys answer x y number r a e n h =
-    let named = matchedAs (matchAs farm house (soughtBy farm house keys name)) in
+by-name name farm house keys index answer x y number r a e n h =
+    let named = matchedAs (matchAs farm house (soughtThrough farm house keys index name)) in
     h ∙ ap (λ k. cond (eqb k too-big) TooBig named) (n ∙ ap readNumber e) ∙ ap (λ r. referredAs r named) (sym e ∙ a)
 
 returns : tie.Need-returns
 returns c =
-    by-name _ _ _ _ _ _ _ _ _ (c .before .before .before .before .read-unsigned .ensures) (c .before .before .enum-told .given .1) (c .before .refusal-of .ensures) (c .as-name .ensures)
+    by-name _ _ _ _ _ _ _ _ _ _ (c .before .before .before .before .read-unsigned .ensures) (c .before .before .enum-told .given .1) (c .before .refusal-of .ensures) (c .as-name .ensures)
 
-valued : (name farm house keys : List ℕ) (answer : Reading) (n : Valued) → answer ≡ reading name true no-limit → answer ≡ Value n
-    → Number (n .value % 256) ≡ referredBy farm house keys name
+valued : (name farm house keys index : List ℕ) (answer : Reading) (n : Valued) → answer ≡ reading name true no-limit → answer ≡ Value n
+    → Number (n .value % 256) ≡ referredBy farm house keys index name
 unfolding referredBy
-valued name farm house keys answer n a v = ap (λ r. referredAs r (matchedAs (matchAs farm house (soughtBy farm house keys name)))) (sym v ∙ a)
+valued name farm house keys index answer n a v = ap (λ r. referredAs r (matchedAs (matchAs farm house (soughtThrough farm house keys index name)))) (sym v ∙ a)
 
 returns-2 : tie.Need-returns-2
-returns-2 c = valued _ _ _ _ _ _ (c .before .before .before .before .read-unsigned .ensures) (c .before .before .answer .given .1)
+returns-2 c = valued _ _ _ _ _ _ _ (c .before .before .before .before .read-unsigned .ensures) (c .before .before .answer .given .1)
 
 pub resolve-spec : {M : Type 1} → statement M
 resolve-spec =

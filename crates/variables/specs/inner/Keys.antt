@@ -15,8 +15,6 @@ use Rattle.variables.specs.Tables.{before, recordsOf, scan}
 use Rattle.variables.specs.Holdings.{heldBy, Holding, nowhere, held}
 use Rattle.variables.specs.declared.Checked.{Checked}
 use Rattle.variables.specs.declared.Checked.the-variants.{Good, BadTable}
-use Rattle.variables.specs.declared.both.Found.{Found}
-use Rattle.variables.specs.declared.both.Found.the-variants.{At, Unknown}
 use Rattle.variables.specs.declared.Match.{Match}
 use Rattle.variables.specs.declared.Match.the-variants.{Record, Missing}
 
@@ -98,8 +96,3 @@ matchAs farm house (held holder e) = Record (variableAt holder (heldBy holder fa
 abbrev pub noMatch : Match → Bool
 noMatch Missing = true
 noMatch (Record v) = false
-
--- what such a look-up comes to in good tables
-abbrev pub inGoodTables : Match → Found
-inGoodTables (Record v) = At v
-inGoodTables Missing = Unknown

@@ -1,10 +1,13 @@
-// `trans TEXTHEX FARMHEX HOUSEHEX x FLAGS ALLOWANCE ROOM`: the translation of a text over two tables. The `x` says that no index is given.
+// `trans TEXTHEX FARMHEX HOUSEHEX INDEX FLAGS ALLOWANCE ROOM`: the translation of a text over two tables. The index is that of the second
+// one, or `x` where none is given.
 use crate::answers;
+use crate::cases::index::refused;
 use crate::fields;
 use crate::frame;
 use crate::frame::FILLER;
 use crate::slices;
 use gs::Translated;
+use paper::BAD_INDEX;
 use symbols::flags::Flags;
 
 pub(crate) fn answer<'a>(
@@ -12,12 +15,22 @@ pub(crate) fn answer<'a>(
     text: &[u8],
     farm: &'a [u8],
     house: &'a [u8],
+    index: &[u8],
     lent: &mut [u8],
 ) {
     let flags = Flags(fields::number(line, 5));
     let allowance = fields::number(line, 6);
     let room = fields::number(line, 7);
-    let translated = gs::translate(text, farm, house, flags, allowance, frame::room(lent, room));
+    let translated = gs::translate(
+        text,
+        farm,
+        house,
+        index,
+        fields::is_given(line, 4),
+        flags,
+        allowance,
+        frame::room(lent, room),
+    );
     show(translated, frame::framed(lent, room));
 }
 
@@ -36,6 +49,7 @@ fn show(translated: Translated, framed: &[u8]) {
             at,
             free,
         } => refused(number, answers::letter_of(holder), at.0, 0, free, framed),
+        Translated::BadIndex { free } => refused(BAD_INDEX, b'i', 0, 0, free, framed),
     }
 }
 
@@ -47,12 +61,4 @@ fn written(end: usize, need: usize, free: usize, framed: &[u8]) {
     answers::number(need);
     answers::number(free);
     frame::watch(slices::part(framed, need, framed.len()), FILLER);
-}
-
-// `no N W PLACE NEED FREE`
-fn refused(number: u8, counted: u8, place: usize, need: usize, free: usize, framed: &[u8]) {
-    answers::refusal_in(number, counted, place);
-    answers::number(need);
-    answers::number(free);
-    frame::watch(framed, FILLER);
 }

@@ -8,14 +8,13 @@ use borrow.Author.Needs.{needs}
 use denote.Ref.{now}
 use Rattle.variables.proofs.Bounds.{all-bytes}
 use Rattle.variables.specs.Names.{namesOf}
-use Rattle.variables.specs.Holdings.{heldBy}
-use Rattle.variables.specs.Lookups.{partOf}
+use Rattle.variables.specs.Holdings.{heldBy, partOf}
 use Rattle.gs.specs.Readings.{expands, wholeText}
 use Rattle.runs.specs.Plain.{plainByte, alsoEnds}
 use Rattle.runs.specs.inner.Stretches.{Stretch}
 use Rattle.runs.proofs.StretchLaws.{run-stretch}
 use Rattle.references.specs.References.{referredIn}
-use Rattle.references.proofs.Resolved.{by-own-keys}
+use Rattle.references.proofs.Resolved.{as-led}
 use Rattle.gs.specs.inner.Steps.{Came, Read, pieceOf, lengthIn}
 use Rattle.records.specs.declared.Variable.{Variable}
 use Rattle.gs.proofs.Pieces.{laid-at, value-small}
@@ -55,30 +54,30 @@ use Rattle.variables.proofs.both.value_of.Reads as value-of-reads
 use Rattle.gs.proofs.expansion.+expand+follow.{statement}
 use Rattle.gs.proofs.expansion.+expand+follow.Tie.{close}
 
-abbrev μ-expand : Measures 4 expand-kinds.ps ℕ
-μ-expand κs a = 2 * a .1 .1 .1 .1 .1 .0 + 1
+abbrev μ-expand : Measures 5 expand-kinds.ps ℕ
+μ-expand κs a = 2 * a .1 .1 .1 .1 .1 .1 .0 + 1
 
-abbrev μ-follow : Measures 3 follow-kinds.ps ℕ
-μ-follow κs a = 2 * a .1 .1 .1 .1 .0
+abbrev μ-follow : Measures 4 follow-kinds.ps ℕ
+μ-follow κs a = 2 * a .1 .1 .1 .1 .1 .0
 
-abbrev expand-at : ℕ → In 4 expand-kinds.ps
-expand-at t = and 4 expand-kinds.ps (is 4 expand-kinds.ps μ-expand t) expand.Pre
+abbrev expand-at : ℕ → In 5 expand-kinds.ps
+expand-at t = and 5 expand-kinds.ps (is 5 expand-kinds.ps μ-expand t) expand.Pre
 
-abbrev expand-below : ℕ → In 4 expand-kinds.ps
-expand-below t = and 4 expand-kinds.ps (falls 4 expand-kinds.ps _<_ μ-expand t) expand.Pre
+abbrev expand-below : ℕ → In 5 expand-kinds.ps
+expand-below t = and 5 expand-kinds.ps (falls 5 expand-kinds.ps _<_ μ-expand t) expand.Pre
 
-abbrev follow-at : ℕ → In 3 follow-kinds.ps
-follow-at t = and 3 follow-kinds.ps (is 3 follow-kinds.ps μ-follow t) follow.Pre
+abbrev follow-at : ℕ → In 4 follow-kinds.ps
+follow-at t = and 4 follow-kinds.ps (is 4 follow-kinds.ps μ-follow t) follow.Pre
 
-abbrev follow-below : ℕ → In 3 follow-kinds.ps
-follow-below t = and 3 follow-kinds.ps (falls 3 follow-kinds.ps _<_ μ-follow t) follow.Pre
+abbrev follow-below : ℕ → In 4 follow-kinds.ps
+follow-below t = and 4 follow-kinds.ps (falls 4 follow-kinds.ps _<_ μ-follow t) follow.Pre
 
 abbrev expand-Inv-loop : expand-lts.InvT-loop
-expand-Inv-loop text farm house keys flags levels out₀ mode here₀ far₀ rest₀ spaces-end out here far rest =
+expand-Inv-loop text farm house keys index flags levels out₀ mode here₀ far₀ rest₀ spaces-end out here far rest =
     Walk (namesOf farm house) (expands (namesOf farm house) levels) text (flags .0) rest₀ far₀ out₀ mode out here far rest
 
 abbrev expand-μ-loop : expand-lts.MeasureT-loop
-expand-μ-loop text farm house keys flags levels out₀ mode here₀ far₀ rest₀ spaces-end out here far rest = length text + 1 - here
+expand-μ-loop text farm house keys index flags levels out₀ mode here₀ far₀ rest₀ spaces-end out here far rest = length text + 1 - here
 
 -- what the functions that `expand` calls ask and tell
 abbrev expand-calls : ℕ → expand-lts.Claims
@@ -109,7 +108,7 @@ expand-calls t = (
 
 expand-loop-holds : (t : ℕ) → expand-lts.Need-loop-holds (expand-calls t) (expand-at t) expand.Post expand-Inv-loop expand-μ-loop
 expand-loop-holds t c =
-    let a = c .before .before .before .before .before .before .before .args in
+    let a = c .before .before .before .before .before .before .before .before .args in
     let names = namesOf (a .farm .now) (a .house .now) in
     start names (expands names (a .levels)) (a .text .now) (a .flags .0) (a .carried .left) (a .carried .to) (a .out .now) (c .before .open .result .mode)
     (c .before .open .result .at) (c .before .open .ensures .0) (c .before .open .ensures .1)
@@ -117,11 +116,11 @@ expand-loop-holds t c =
 -- what the run passes over is a stretch of plain bytes
 expand-stretch :
     (t : ℕ) (c : expand-lts.After-plain-end (expand-calls t) (expand-at t) expand.Post expand-Inv-loop expand-μ-loop) →
-    Stretch (plainByte (alsoEnds (c .before .before .is-ending-space .result))) (c .before .before .before .before .before .before .before .before .before .args .text .now)
+    Stretch (plainByte (alsoEnds (c .before .before .is-ending-space .result))) (c .before .before .before .before .before .before .before .before .before .before .args .text .now)
     (c .before .loop .here) (c .plain-end .result)
 expand-stretch t c =
     let test = plainByte (alsoEnds (c .before .before .is-ending-space .result)) in
-    let text = c .before .before .before .before .before .before .before .before .before .args .text .now in
+    let text = c .before .before .before .before .before .before .before .before .before .before .args .text .now in
     subst (Stretch test text (c .before .loop .here)) (sym (c .plain-end .ensures))
     (run-stretch test text (c .before .loop .here) (c .before .loop .inv .inside))
 
@@ -141,7 +140,7 @@ expand-add-far : (t : ℕ) → expand-lts.Need-add-far (expand-calls t) (expand-
 expand-add-far t c =
     let run = expand-stretch t (c .before .before .before .before .before) in
     let w = c .before .before .before .before .before .before .loop .inv in
-    omega (arith, c .before .before .before .before .before .before .before .before .before .before .before .before .before .before .pre .1, w .place, w .small, run .forward, run .inside)
+    omega (arith, c .before .before .before .before .before .before .before .before .before .before .before .before .before .before .before .pre .1, w .place, w .small, run .forward, run .inside)
 
 -- where the symbol at hand is known, behind a run of plain bytes
 module _ (t : ℕ) (c : expand-lts.After-symbol-at (expand-calls t) (expand-at t) expand.Post expand-Inv-loop expand-μ-loop) where
@@ -152,7 +151,7 @@ module _ (t : ℕ) (c : expand-lts.After-symbol-at (expand-calls t) (expand-at t
   expand-turn = expand-passed .before
 
   abbrev expand-begun : expand-lts.Start (expand-calls t) (expand-at t) expand.Post expand-Inv-loop expand-μ-loop
-  expand-begun = expand-turn .before .before .before .before .before .before .before .before
+  expand-begun = expand-turn .before .before .before .before .before .before .before .before .before
 
   abbrev expand-here : ℕ
   expand-here = expand-passed .plain-end .result
@@ -261,9 +260,9 @@ expand-follow-requires t c κs =
     let w = expand-walk t s in
     let r = c .before .before .before .before .symbol4 .given in
     let name = take (r .0 .1 .0 - r .0 .0) (drop (r .0 .0) (expand-text t s)) in
-    let small = value-small (a .farm .now) (a .house .now) (all-bytes _ _ (λ k. omega (arith, s .before .before .before .before .before .before .before .before .before .before .before .before .before .shared-slice-known2 .given k)) (λ k. omega (arith, s .before .before .before .before .before .before .before .before .before .before .before .before .shared-slice-known3 .given k))) name in (
+    let small = value-small (a .farm .now) (a .house .now) (all-bytes _ _ (λ k. omega (arith, s .before .before .before .before .before .before .before .before .before .before .before .before .before .before .shared-slice-known2 .given k)) (λ k. omega (arith, s .before .before .before .before .before .before .before .before .before .before .before .before .before .shared-slice-known3 .given k))) name in (
       omega (arith, pre .0),
-      (omega (arith, pre .1, w .place, w .small, w .inside), subst (λ r. lengthIn r ≤ 255) (sym (c .before .resolve .ensures ∙ by-own-keys (a .farm .now) (a .house .now) name (a .keys .now) (pre .1 .2))) small, pre .1 .2),
+      (omega (arith, pre .1, w .place, w .small, w .inside), subst (λ r. lengthIn r ≤ 255) (sym (c .before .resolve .ensures ∙ as-led (a .farm .now) (a .house .now) (a .keys .now) (a .index .now) name (pre .1 .2))) small, pre .1 .2),
     )
 
 expand-loop-less-2 : (t : ℕ) → expand-lts.Need-loop-less-2 (expand-calls t) (expand-at t) expand.Post expand-Inv-loop expand-μ-loop
@@ -281,8 +280,8 @@ expand-loop-again-2 t c =
     let r = c .before .before .before .before .before .before .before .before .before .before .symbol4 .given in
     let name = take (r .0 .1 .0 - r .0 .0) (drop (r .0 .0) (expand-text t s)) in
     let follow = c .before .before .before .before .before .follow in
-    let came = subst (λ k. Came (pieceOf (a .farm .now) (a .house .now) (expands names (a .levels)) k name (expand-here t s)) rest (expand-far t s) (expand-out t s) (follow .last .1 .1 .1 .1 .1 .1 .1 .0) (follow .result))
-    (c .before .before .before .before .before .before .before .resolve .ensures ∙ by-own-keys (a .farm .now) (a .house .now) name (a .keys .now) (expand-begun t s .pre .1 .2)) (follow .ensures name) in
+    let came = subst (λ k. Came (pieceOf (a .farm .now) (a .house .now) (expands names (a .levels)) k name (expand-here t s)) rest (expand-far t s) (expand-out t s) (follow .last .1 .1 .1 .1 .1 .1 .1 .1 .0) (follow .result))
+    (c .before .before .before .before .before .before .before .resolve .ensures ∙ as-led (a .farm .now) (a .house .now) (a .keys .now) (a .index .now) name (expand-begun t s .pre .1 .2)) (follow .ensures name) in
     let piece = pieceOf (a .farm .now) (a .house .now) (expands names (a .levels)) (referredIn (a .farm .now) (a .house .now) name) name (expand-here t s) in
     let stands = expand-stands t s _ (r .1) in
     at-reference (a .farm .now) (a .house .now) (expands names (a .levels)) (expand-text t s) (a .flags .0) (a .carried .left) (a .carried .to) (a .out .now) (expand-mode t s) (expand-out t s) (expand-here t s) (expand-far t s) rest
@@ -306,11 +305,11 @@ expand-returns-3 t c =
     let r = k .before .before .before .before .before .before .before .before .before .before .symbol4 .given in
     let name = take (r .0 .1 .0 - r .0 .0) (drop (r .0 .0) (expand-text t s)) in
     let follow = k .before .before .before .before .before .follow in
-    let came = subst (λ k. Came (pieceOf (a .farm .now) (a .house .now) (expands names (a .levels)) k name (expand-here t s)) rest (expand-far t s) (expand-out t s) (follow .last .1 .1 .1 .1 .1 .1 .1 .0) (follow .result))
-    (k .before .before .before .before .before .before .before .resolve .ensures ∙ by-own-keys (a .farm .now) (a .house .now) name (a .keys .now) (expand-begun t s .pre .1 .2)) (follow .ensures name) in
+    let came = subst (λ k. Came (pieceOf (a .farm .now) (a .house .now) (expands names (a .levels)) k name (expand-here t s)) rest (expand-far t s) (expand-out t s) (follow .last .1 .1 .1 .1 .1 .1 .1 .1 .0) (follow .result))
+    (k .before .before .before .before .before .before .before .resolve .ensures ∙ as-led (a .farm .now) (a .house .now) (a .keys .now) (a .index .now) name (expand-begun t s .pre .1 .2)) (follow .ensures name) in
     let piece = pieceOf (a .farm .now) (a .house .now) (expands names (a .levels)) (referredIn (a .farm .now) (a .house .now) name) name (expand-here t s) in
     let both = came-to-refusal piece rest (expand-far t s) (expand-out t s) _ _ _ _ came (k .before .came2 .given .1) in
-    subst (expand-read t s (follow .last .1 .1 .1 .1 .1 .1 .1 .0)) (sym (c .refused-text2 .ensures))
+    subst (expand-read t s (follow .last .1 .1 .1 .1 .1 .1 .1 .1 .0)) (sym (c .refused-text2 .ensures))
     (at-refused (a .farm .now) (a .house .now) (expands names (a .levels)) (expand-text t s) (a .flags .0) (a .carried .left) (a .carried .to) (a .out .now) (expand-mode t s) (expand-out t s) (expand-here t s) (expand-far t s) rest
     (r .0 .0) (r .0 .1 .0) (r .0 .1 .1 .0) (expand-walk t s) (sym (s .symbol-at .ensures) ∙ r .1) _ _ _ (both .0) (both .1))
 
@@ -342,20 +341,20 @@ part-short farm house value v e small = omega (arith, ap length e, length-take (
 follow-give-requires : (t : ℕ) → follow-lts.Need-give-requires (follow-calls t) (follow-at t) follow.Post
 follow-give-requires t c κs =
     let k = c .before .before .before .referred2 .given in (
-      part-short (c .before .before .before .before .before .before .before .before .before .args .farm .now) (c .before .before .before .before .before .before .before .before .before .args .house .now) _ (k .0 .0) (c .before .value-of .ensures) (subst (λ r. lengthIn r ≤ 255) (k .1) (c .before .before .before .before .before .before .before .before .before .pre .1 .1)),
-      omega (arith, c .before .before .before .before .before .before .before .before .before .pre .1 .0),
+      part-short (c .before .before .before .before .before .before .before .before .before .before .args .farm .now) (c .before .before .before .before .before .before .before .before .before .before .args .house .now) _ (k .0 .0) (c .before .value-of .ensures) (subst (λ r. lengthIn r ≤ 255) (k .1) (c .before .before .before .before .before .before .before .before .before .before .pre .1 .1)),
+      omega (arith, c .before .before .before .before .before .before .before .before .before .before .pre .1 .0),
     )
 
 follow-returns : (t : ℕ) → follow-lts.Need-returns (follow-calls t) (follow-at t) follow.Post
 follow-returns t c name =
-    let a = c .before .before .before .before .before .before .before .before .before .args in
+    let a = c .before .before .before .before .before .before .before .before .before .before .args in
     let names = namesOf (a .farm .now) (a .house .now) in
     let k = c .before .before .before .referred4 .given in
     too-deep-gives (a .farm .now) (a .house .now) (a .referred) name (a .carried .left) (a .place) (a .carried .to) (a .out .now) names (a .levels) (k .0 .0) (k .1) _ (c .before .if1 .taken) (c .refused-reference3 .ensures)
 
 follow-returns-2 : (t : ℕ) → follow-lts.Need-returns-2 (follow-calls t) (follow-at t) follow.Post
 follow-returns-2 t c name =
-    let a = c .before .before .before .before .before .before .before .before .before .before .before .args in
+    let a = c .before .before .before .before .before .before .before .before .before .before .before .before .args in
     let names = namesOf (a .farm .now) (a .house .now) in
     let k = c .before .before .before .before .before .referred4 .given in
     spent-gives (a .farm .now) (a .house .now) (a .referred) name (a .carried .left) (a .place) (a .carried .to) (a .out .now) names (a .levels) (k .0 .0) (k .1) _ (c .before .before .before .if1 .left) (c .before .if2 .taken) (c .refused-reference4 .ensures)
@@ -363,50 +362,50 @@ follow-returns-2 t c name =
 follow-expand-requires : (t : ℕ) → follow-lts.Need-expand-requires (follow-calls t) (follow-at t) follow.Post
 follow-expand-requires t c κs =
     let k = c .before .before .before .before .before .before .before .before .referred4 .given in
-    let short = part-short (c .before .before .before .before .before .before .before .before .before .before .before .before .before .before .args .farm .now) (c .before .before .before .before .before .before .before .before .before .before .before .before .before .before .args .house .now) _ (k .0 .0) (c .before .before .before .value-of3 .ensures) (subst (λ r. lengthIn r ≤ 255) (k .1) (c .before .before .before .before .before .before .before .before .before .before .before .before .before .before .pre .1 .1)) in
-    (omega (arith, c .before .before .before .before .before .before .before .before .before .before .before .before .before .before .pre .0, c .before .before .before .before .before .before .if1 .left), (omega (arith, short), omega (arith, short, c .before .before .before .before .before .before .before .before .before .before .before .before .before .before .pre .1 .0, c .before .before .before .before .if2 .left), c .before .before .before .before .before .before .before .before .before .before .before .before .before .before .pre .1 .2))
+    let short = part-short (c .before .before .before .before .before .before .before .before .before .before .before .before .before .before .before .args .farm .now) (c .before .before .before .before .before .before .before .before .before .before .before .before .before .before .before .args .house .now) _ (k .0 .0) (c .before .before .before .value-of3 .ensures) (subst (λ r. lengthIn r ≤ 255) (k .1) (c .before .before .before .before .before .before .before .before .before .before .before .before .before .before .before .pre .1 .1)) in
+    (omega (arith, c .before .before .before .before .before .before .before .before .before .before .before .before .before .before .before .pre .0, c .before .before .before .before .before .before .if1 .left), (omega (arith, short), omega (arith, short, c .before .before .before .before .before .before .before .before .before .before .before .before .before .before .before .pre .1 .0, c .before .before .before .before .if2 .left), c .before .before .before .before .before .before .before .before .before .before .before .before .before .before .before .pre .1 .2))
 
 follow-returns-3 : (t : ℕ) → follow-lts.Need-returns-3 (follow-calls t) (follow-at t) follow.Post
 follow-returns-3 t c name =
-    let a = c .before .before .before .before .before .before .before .before .before .before .before .before .args in
+    let a = c .before .before .before .before .before .before .before .before .before .before .before .before .before .args in
     let names = namesOf (a .farm .now) (a .house .now) in
     let k = c .before .before .before .before .before .before .referred .given in
     number-gives (a .farm .now) (a .house .now) (a .referred) name (a .carried .left) (a .place) (a .carried .to) (a .out .now) (expands names (a .levels)) (k .0 .0) _ (k .1) (laid-at _ _ _ _ (c .before .before .before .put .ensures))
 
 follow-returns-4 : (t : ℕ) → follow-lts.Need-returns-4 (follow-calls t) (follow-at t) follow.Post
 follow-returns-4 t c name =
-    let a = c .before .before .before .before .before .before .before .args in
+    let a = c .before .before .before .before .before .before .before .before .args in
     let names = namesOf (a .farm .now) (a .house .now) in
     too-big-gives (a .farm .now) (a .house .now) (a .referred) name (a .carried .left) (a .place) (a .carried .to) (a .out .now) (expands names (a .levels)) _ (c .before .enum-told .given .1) (c .refused-reference .ensures)
 
 follow-returns-5 : (t : ℕ) → follow-lts.Need-returns-5 (follow-calls t) (follow-at t) follow.Post
 follow-returns-5 t c name =
-    let a = c .before .before .before .before .before .before .before .args in
+    let a = c .before .before .before .before .before .before .before .before .args in
     let names = namesOf (a .farm .now) (a .house .now) in
     unknown-gives (a .farm .now) (a .house .now) (a .referred) name (a .carried .left) (a .place) (a .carried .to) (a .out .now) (expands names (a .levels)) _ (c .before .enum-told2 .given .1) (c .refused-reference2 .ensures)
 
 follow-returns-6 : (t : ℕ) → follow-lts.Need-returns-6 (follow-calls t) (follow-at t) follow.Post
 follow-returns-6 t c name =
-    let a = c .before .before .before .before .before .before .before .before .before .before .before .before .args in
+    let a = c .before .before .before .before .before .before .before .before .before .before .before .before .before .args in
     let names = namesOf (a .farm .now) (a .house .now) in
     let k = c .before .before .before .before .before .before .referred2 .given in
     text-gives (a .farm .now) (a .house .now) (a .referred) name (a .carried .left) (a .place) (a .carried .to) (a .out .now) (expands names (a .levels)) (k .0 .0) _ _ _ (k .1) (c .before .before .before .before .value-of .ensures) (c .before .before .give .ensures name)
 
 follow-returns-7 : (t : ℕ) → follow-lts.Need-returns-7 (follow-calls t) (follow-at t) follow.Post
 follow-returns-7 t c name =
-    let a = c .before .before .before .before .before .before .before .before .before .before .before .before .args in
+    let a = c .before .before .before .before .before .before .before .before .before .before .before .before .before .args in
     let names = namesOf (a .farm .now) (a .house .now) in
     let k = c .before .before .before .before .before .before .referred3 .given in
     integer-gives (a .farm .now) (a .house .now) (a .referred) name (a .carried .left) (a .place) (a .carried .to) (a .out .now) (expands names (a .levels)) (k .0 .0) _ _ _ (k .1) (c .before .before .before .before .value-of2 .ensures) (c .before .before .give-integer .ensures name)
 
 follow-returns-8 : (t : ℕ) → follow-lts.Need-returns-8 (follow-calls t) (follow-at t) follow.Post
 follow-returns-8 t c name =
-    let a = c .before .before .before .before .before .before .before .before .before .before .before .before .before .before .before .before .before .before .args in
+    let a = c .before .before .before .before .before .before .before .before .before .before .before .before .before .before .before .before .before .before .before .args in
     let names = namesOf (a .farm .now) (a .house .now) in
     let k = c .before .before .before .before .before .before .before .before .before .before .before .before .referred4 .given in
-    let short = part-short (a .farm .now) (a .house .now) _ (k .0 .0) (c .before .before .before .before .before .before .before .value-of3 .ensures) (subst (λ r. lengthIn r ≤ 255) (k .1) (c .before .before .before .before .before .before .before .before .before .before .before .before .before .before .before .before .before .before .pre .1 .1)) in
+    let short = part-short (a .farm .now) (a .house .now) _ (k .0 .0) (c .before .before .before .before .before .before .before .value-of3 .ensures) (subst (λ r. lengthIn r ≤ 255) (k .1) (c .before .before .before .before .before .before .before .before .before .before .before .before .before .before .before .before .before .before .before .pre .1 .1)) in
     value-gives (a .farm .now) (a .house .now) (a .referred) name (a .carried .left) (a .place) (a .carried .to) (a .out .now) names (a .levels) (k .0 .0) (k .1) _ _ _ _ (c .before .before .before .before .before .before .before .before .before .before .if1 .left) (c .before .before .before .before .before .before .before .before .if2 .left) (c .before .before .before .before .before .before .before .value-of3 .ensures) short
-    (subst (λ f. Read (wholeText names (expands names (a .levels - 1)) (now (c .before .before .before .before .before .before .before .value-of3 .result)) f) (length (now (c .before .before .before .before .before .before .before .value-of3 .result))) (a .carried .left - 1) (a .carried .to) (a .out .now) (c .before .before .before .expand .last .1 .1 .1 .1 .1 .1 .1 .0) (c .before .before .before .expand .result))
+    (subst (λ f. Read (wholeText names (expands names (a .levels - 1)) (now (c .before .before .before .before .before .before .before .value-of3 .result)) f) (length (now (c .before .before .before .before .before .before .before .value-of3 .result))) (a .carried .left - 1) (a .carried .to) (a .out .now) (c .before .before .before .expand .last .1 .1 .1 .1 .1 .1 .1 .1 .0) (c .before .before .before .expand .result))
     (c .before .before .before .before .before .before .none .ensures) (c .before .before .before .expand .ensures))
     (c .progress-of .ensures)
 

@@ -1,8 +1,11 @@
 -- `nos_translate` meets its contract: the numbers of `translate`'s answer.
+use mathlib.Core.Bool.{not}
 use mathlib.Core.Path.{_≡_, ap, sym, _∙_}
 use Prim.Native.Nat.{ℕ}
+use lib.Dec.{eqb}
 use lib.ListN.{length}
 use borrow.Author.Needs.{needs}
+use Rattle.indexes.specs.Indexes.{Given, givenBy}
 use Rattle.gs.specs.Translations.{translated, translatedAnswer, outAfter}
 use Rattle.gs.specs.declared.Translated.{Translated}
 use Rattle.nosgoludd.specs.Faces.{answerFace}
@@ -13,21 +16,28 @@ use Rattle.nosgoludd.proofs.translations.nos_translate.Tie as tie
 carried : {A : Type 0} (f : ℕ → A) {kept flags : ℕ} {r : A} → r ≡ f kept → kept ≡ flags → r ≡ f flags
 carried f e k = e ∙ ap f k
 
--- the C form of an answer that is known
-told : (c : tie.After-translate) (r : Translated) → c .translate .result ≡ r
-    → let a = c .before .before .before .before .before .before .before .args in
-    answerFace (translatedAnswer r) ≡ answerFace (translatedAnswer (translated (a .text .now) (a .farm .now) (a .house .now) (a .flags) (a .allowance) (length (a .out .now))))
-told c r known =
-    let a = c .before .before .before .before .before .before .before .args in
-    ap (λ r. answerFace (translatedAnswer r))
-    (sym known
-    ∙ carried (λ f. translated (a .text .now) (a .farm .now) (a .house .now) f (a .allowance) (length (a .out .now))) (c .translate .ensures .0) (c .before .before .of .ensures))
+-- where the text was translated
+module _ (c : tie.After-translate) where
+  abbrev start : tie.Start
+  start = c .before .before .before .before .before .before .before .before
 
-left : (c : tie.After-translate)
-    → let a = c .before .before .before .before .before .before .before .args in c .translate .last .1 .1 .1 .1 .1 .0 ≡ outAfter (a .text .now) (a .farm .now) (a .house .now) (a .flags) (a .allowance) (a .out .now)
-left c =
-    let a = c .before .before .before .before .before .before .before .args in
-    carried (λ f. outAfter (a .text .now) (a .farm .now) (a .house .now) f (a .allowance) (a .out .now)) (c .translate .ensures .1) (c .before .before .of .ensures)
+  abbrev given : Given
+  given = givenBy (not (eqb (start .args .indexed) 0)) (start .args .index .now)
+
+  -- the C form of an answer that is known
+  told : (r : Translated) → c .translate .result ≡ r
+      → let a = start .args in
+      answerFace (translatedAnswer r) ≡ answerFace (translatedAnswer (translated (a .text .now) (a .farm .now) (a .house .now) given (a .flags) (a .allowance) (length (a .out .now))))
+  told r known =
+      let a = start .args in
+      ap (λ r. answerFace (translatedAnswer r))
+      (sym known
+      ∙ carried (λ f. translated (a .text .now) (a .farm .now) (a .house .now) given f (a .allowance) (length (a .out .now))) (c .translate .ensures .0) (c .before .before .of .ensures))
+
+  left : let a = start .args in c .translate .last .1 .1 .1 .1 .1 .1 .1 .0 ≡ outAfter (a .text .now) (a .farm .now) (a .house .now) given (a .flags) (a .allowance) (a .out .now)
+  left =
+      let a = start .args in
+      carried (λ f. outAfter (a .text .now) (a .farm .now) (a .house .now) given f (a .allowance) (a .out .now)) (c .translate .ensures .1) (c .before .before .of .ensures)
 
 returns : tie.Need-returns
 returns c =
@@ -44,6 +54,11 @@ returns-3 c =
     let at = c .before .before .before .before .before .before in
     (rw (c .counted-in .ensures) (told at _ (c .before .before .answer3 .given .1)), left at)
 
+returns-4 : tie.Need-returns-4
+returns-4 c =
+    let at = c .before .before .before .before .before in
+    (told at _ (c .before .answer4 .given .1), left at)
+
 pub nos-translate-spec : {M : Type 1} → statement M
 nos-translate-spec =
     tie.close
@@ -57,8 +72,12 @@ nos-translate-spec =
     (λ c. search needs)
     (λ c κs. search needs)
     (λ c. search needs)
+    (λ c. search needs)
+    (λ c. search needs)
     returns
     (λ c. search needs)
     returns-2
     (λ c. search needs)
-    returns-3)
+    returns-3
+    (λ c. search needs)
+    returns-4)

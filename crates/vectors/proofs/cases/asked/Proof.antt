@@ -8,7 +8,7 @@ abbrev Inv-loop : tie.InvT-loop
 Inv-loop line forms operation₀ operation = Unit {0}
 
 abbrev μ-loop : tie.MeasureT-loop
-μ-loop line forms operation₀ operation = 7 - operation
+μ-loop line forms operation₀ operation = 10 - operation
 
 pub asked-spec : {M : Type 1} → statement M
 asked-spec =

@@ -8,7 +8,7 @@ abbrev Inv-loop : tie.InvT-loop
 Inv-loop line index into₀ start digits at₀ end₀ into at end = at ≤ end + end
 
 abbrev μ-loop : tie.MeasureT-loop
-μ-loop line index into₀ start digits at₀ end₀ into at end = 210000 - end
+μ-loop line index into₀ start digits at₀ end₀ into at end = 280000 - end
 
 pub unpack-spec : {M : Type 1} → statement M
 unpack-spec =
