@@ -1,9 +1,9 @@
-/* Nosgoludd: numbers and dates to strings, numbers read from texts, variables in two tables, texts that name them, and expressions,
- * whole or refused.
+/* Nosgoludd: numbers and dates to strings, numbers read from texts, variables in two tables with an index beside one of them, texts that
+ * name them, and expressions, whole or refused.
  *
  * An office certifies organic farms from old diaries. Once a quantity fell across the end of a 1,048,576-byte buffer, the
- * conversion cut it, and the rows after it were never seen. So a conversion or a translation comes whole, or it is refused and
- * writes nothing, and where room was all it lacked the refusal carries the need: ask again with that room.
+ * conversion cut it, and the rows after it were never seen. So a conversion, a translation or an index comes whole, or it is refused
+ * and writes nothing, and where room was all it lacked the refusal carries the need: ask again with that room.
  *
  * Link libnosgoludd.a: x86-64 Linux, and all it needs is memcpy and memset of the C library. The functions are proved to give
  * these answers for every input. They keep nothing between calls, allocate nothing and always return, so threads may call them at
@@ -12,8 +12,9 @@
  *
  * What the proof asks of you: a pointer points to as many bytes as the room or length after it says, which may be read, and for
  * buf and out written. Nothing else (a thread, a shared mapping) writes any of them before the call returns, nor reads those of
- * buf and out; out overlaps neither text nor tables, and buf neither time nor format. With a room or a length of 0 the pointer is not
- * used and may be NULL: the compiled code was looked at for that, and examples/c runs every one so.
+ * buf and out; out overlaps neither text, tables nor index, that of nos_build_index not its table, and buf neither time nor format.
+ * With a room or a length of 0 the pointer is not used and may be NULL, and so is that of an index where `indexed` is 0, whatever its
+ * length: the compiled code was looked at for that, and examples/c runs every one so.
  *
  * What no proof can ask for you: give the true length of a text, a format or a table, as long as it is. What is over 65,535 bytes is
  * refused, by 18. A length that you clamp to 65,535 makes the library read a cut text as if it were whole.
@@ -30,7 +31,7 @@
 #include <stddef.h>
 #include <stdint.h>
 
-#define NOS_VERSION "1.4.0"       /* each change request raises the second number, other work the third; CHANGES.md has them all */
+#define NOS_VERSION "1.5.0"       /* each change request raises the second number, other work the third; CHANGES.md has them all */
 #define NOS_STACK 49152u          /* the most bytes of stack that a call takes */
 #define NOS_LONGEST 65535u        /* the longest text, format or table that is read, in bytes */
 #define NOS_TIME 5u               /* the bytes of a time */
@@ -41,8 +42,8 @@ extern "C" {
 #endif
 
 /* One numbering for the whole library. nos_convert refuses by 14 and 1, nos_convert_date by 18, 19 and 1, nos_read_unsigned by 18, 3,
- * 2, 4, 5 and 6, nos_check_table by 18 and 13, nos_look_up by 18, 13 and 10, nos_translate by 18, 13, 9, 4, 10, 11, 12, 7, 8 and 1,
- * nos_evaluate by 18, 13, 15, 11, 2, 3, 4, 10, 17, 12 and 16. */
+ * 2, 4, 5 and 6, nos_check_table by 18 and 13, nos_build_index by 18, 13 and 1, nos_look_up by 18, 13, 20 and 10, nos_translate by 18,
+ * 13, 20, 9, 4, 10, 11, 12, 7, 8 and 1, nos_evaluate by 18, 13, 15, 11, 2, 3, 4, 10, 17, 12 and 16. */
 enum nos_refusal {
     NOS_ACCEPTED = 0,
     NOS_NO_ROOM = 1,
@@ -63,7 +64,8 @@ enum nos_refusal {
     NOS_ZERO_DIVISOR = 16,
     NOS_NOT_AN_INTEGER = 17,
     NOS_OVER_LENGTH = 18, /* of a time: not five bytes */
-    NOS_BAD_FIELD = 19
+    NOS_BAD_FIELD = 19,
+    NOS_BAD_INDEX = 20
 };
 
 /* A refusal in words. */
@@ -90,18 +92,21 @@ static inline const char *nos_words(uint32_t number)
         "Not an integer variable",
         "Text or table over 65,535 bytes, or a time not of five",
         "Bad field",
+        "Index does not fit this table",
     };
     return number < sizeof words / sizeof words[0] ? words[number] : "No such refusal";
 }
 
 /* What a place is counted in. Where a struct has no `counted` there is but one thing that it can be. */
 enum nos_counting {
-    NOS_IN_THE_TEXT = 0,  /* the text, the name, the format or the time; nos_convert, which has none, always gives it */
-    NOS_IN_THE_HOUSE = 1, /* the house table */
-    NOS_IN_THE_FARM = 2   /* the farm's own table */
+    NOS_IN_THE_TEXT = 0,  /* the text, the name, the format or the time; nos_convert, which has none, always gives it, and
+                           * nos_build_index wherever its table is good */
+    NOS_IN_THE_HOUSE = 1, /* the house table; the one table of nos_build_index */
+    NOS_IN_THE_FARM = 2,  /* the farm's own table */
+    NOS_IN_THE_INDEX = 3  /* the index of the house table */
 };
 
-/* Of nos_convert, nos_convert_date and nos_translate. */
+/* Of nos_convert, nos_convert_date, nos_build_index and nos_translate. */
 struct nos_answer {
     uint32_t number, counted;
     size_t place, need, free;
@@ -262,33 +267,67 @@ enum nos_kind { NOS_STRING = 0, NOS_INTEGER = 1, NOS_MACRO = 2 };
  */
 struct nos_checked nos_check_table(const uint8_t *table, size_t length);
 
-/* The two tables that names are looked up in, each of them as by nos_check_table: a farm's own variables, and those of the house,
- * which all farms share.
+/* Builds the index of a table, by which a name is found without going through all records: their places, in the order of their names,
+ * are written to the start of out. A place is that of the record's mark, two bytes, the lower one first.
+ *
+ * The order: A to Z are taken as a to z, and the names compared as bytes up to the first that differ; a name that is the beginning of
+ * another comes before it. So digits, and "_" too, come before the letters.
+ *
+ *   accepted   place 0. need: twice the number of records, so at most 512. free: room - need. Bytes of out after the need stay as they
+ *              were. counted is 0
+ *   refused    free: the room, and every byte of out stays as it was. The first of these that holds:
+ *              18 NOS_OVER_LENGTH   as by nos_check_table, counted in the table; need 0
+ *              13 NOS_BAD_TABLE     likewise
+ *               1 NOS_NO_ROOM       the room is less than the need, which is in the answer: ask again with that room; place 0, counted 0
+ *
+ * With the records Unit, at 0, with the value kg, and Ashes at 11, Ash_1 at 21 and ash at 31, with no value, 39 bytes in all:
+ *   nos_build_index(table, 39, out, 9)     31 0 21 0 11 0 0 0, so ash, Ash_1, Ashes, Unit; need 8, free 1, the ninth byte as it was
+ *   nos_build_index(table, 39, out, 7)     refused 1, need 8, free 7, out as it was
+ *   nos_build_index(table, 39, NULL, 0)    refused 1, need 8
+ *   nos_build_index(table, 38, out, 0)     refused 13 at 31, counted in the table: its last record is cut off
+ *   nos_build_index(NULL, 0, NULL, 0)      accepted, need 0: the index of a table with no records has no bytes
+ */
+struct nos_answer nos_build_index(const uint8_t *table, size_t length, uint8_t *out, size_t room);
+
+/* What names are looked up in: two tables, each of them as by nos_check_table, a farm's own variables and those of the house, which all
+ * farms share; and beside the house table, if you like, its index.
  *
  * A name means the farm's record that has an equal name, whatever its kind; where there is none, the house's; else it is unknown. So
  * an equal name in both is no fault: the farm's hides the house's. Within one table it still is. A macro of either table may use
  * names of either: they are looked up as those of your text are. One look-up is taken out of the allowance for a name, wherever it
- * ends, and none for one that is refused by 10, 11 or 17. The limits hold for each table: 65,535 bytes, 256 records. A table with no variables has the
- * length 0, and its pointer may be NULL.
+ * ends, and none for one that is refused by 10, 11 or 17. The limits hold for each table: 65,535 bytes, 256 records. A table with no
+ * variables has the length 0, and its pointer may be NULL.
  *
- * Both tables are judged before anything is read, even where nothing is named, or where the farm's has the name. The first of these
- * that holds is the answer, so that an over-long house table comes before a bad farm's table:
+ * An index is for one table: it fits where nos_build_index gives these very bytes for the house table, no more and no fewer. Every call
+ * judges that anew, as it judges the tables. So an index never changes an answer, and one that does not fit is never used; it saves time
+ * where the house table is large, and none where that has a few dozen records. Build it again after every edit of the house table: it
+ * is refused as soon as a record was added or taken out, changed its place, or got a name that comes elsewhere in the order. The farm's
+ * table has no index, and nos_evaluate takes none.
+ *
+ * All are judged before anything is read, even where nothing is named, or where the farm's table has the name. The first of these that
+ * holds is the answer, so that an over-long house table comes before a bad farm's table:
  *   18 NOS_OVER_LENGTH   the text is longer than 65,535 bytes; the farm's table is; the house's is. Place 0, counted in that one
  *   13 NOS_BAD_TABLE     the farm's table is bad; the house's is. The place as by nos_check_table, counted in that one
+ *   20 NOS_BAD_INDEX     there is an index, of any length, and it does not fit the house table. Place 0, counted in the index
  */
 struct nos_tables {
     const uint8_t *farm;
     size_t farm_length;
     const uint8_t *house;
     size_t house_length;
+    const uint8_t *index; /* of the house table, by nos_build_index */
+    size_t index_length;
+    uint32_t indexed;     /* 0: there is no index, and the two fields before this one count for nothing. Any other number: there is */
 };
 
-/* A struct nos_tables as the four arguments of a call, nos_look_up(name, name_length, NOS_TABLES(tables)). Give it a variable: `t` is
- * evaluated four times. */
+/* A struct nos_tables as the arguments of a call: the four of nos_evaluate, NOS_TABLES, and the seven of the other two, as in
+ * nos_look_up(name, name_length, NOS_INDEXED(tables)). Give them a variable: `t` is evaluated once for each argument. A variable that
+ * is initialised with its first four fields has no index. */
 #define NOS_TABLES(t) (t).farm, (t).farm_length, (t).house, (t).house_length
+#define NOS_INDEXED(t) NOS_TABLES(t), (t).index, (t).index_length, (t).indexed
 
-/* Looks a name up, in the farm's table and then in the house's. The name may be any bytes, and any number of them. It is no text: one
- * over 32 bytes is unknown, and never refused by 18.
+/* Looks a name up, in the farm's table and then in the house's; there through the index, where there is one, with the same answer. The
+ * name may be any bytes, and any number of them. It is no text: one over 32 bytes is unknown, and never refused by 18.
  *
  *   accepted   counted: the table that holds the record, NOS_IN_THE_FARM or NOS_IN_THE_HOUSE. place: that of the record, its mark's
  *              first byte. kind: one of enum nos_kind. The value is `length` bytes, which may be none, all of them inside that table,
@@ -296,10 +335,16 @@ struct nos_tables {
  *   refused    kind, length and start 0. The first of these that holds:
  *              18 NOS_OVER_LENGTH    of the farm's table, of the house's: as for struct nos_tables
  *              13 NOS_BAD_TABLE      likewise
+ *              20 NOS_BAD_INDEX      of the index: likewise
  *              10 NOS_UNKNOWN_NAME   no record of either has an equal name; place 0, counted 0
+ *
+ * With the table of nos_build_index's example as the house's and no farm's table, the index 31 0 21 0 11 0 0 0 and indexed 1:
+ *   UNIT    a string at 0 of the house table, start 9, length 2    Ash_2   refused 10
+ * and with 6 bytes of that index, or with 10, whatever the last two are, or after Unit was renamed to Acre, each of them is refused 20.
  */
 struct nos_variable nos_look_up(const uint8_t *name, size_t name_length, const uint8_t *farm, size_t farm_length,
-                                const uint8_t *house, size_t house_length);
+                                const uint8_t *house, size_t house_length, const uint8_t *index, size_t index_length,
+                                uint32_t indexed);
 
 /* The flags of a text. Other bits count for nothing. */
 #define NOS_SPACE_ENDS (1u << 29)   /* a space after the leading ones and outside quotes ends the text */
@@ -337,6 +382,7 @@ struct nos_variable nos_look_up(const uint8_t *name, size_t name_length, const u
  *   refused    every byte of out stays as it was; need 0 except for 1; free: the room. The first of these that holds:
  *              18 NOS_OVER_LENGTH       of the text, of the farm's table, of the house's: as for struct nos_tables
  *              13 NOS_BAD_TABLE         of the farm's table, of the house's: likewise
+ *              20 NOS_BAD_INDEX         of the index: likewise
  *                 then the first of these that the reading meets from the left:
  *               9 NOS_BAD_REFERENCE     no name byte after the "<", or no ">" after those; the "<"
  *               4 NOS_TOO_BIG           its number is over 4,294,967,295; the "<"
@@ -349,10 +395,10 @@ struct nos_variable nos_look_up(const uint8_t *name, size_t name_length, const u
  *               1 NOS_NO_ROOM           the room is less than the need, which is in the answer; place 0
  *              At one reference 9, 4, 10, 11, 12 come in this order. A refusal inside a macro has its own number, and the place of
  *              the "<" in your text that led there.
- * counted is 0 but where a table is refused.
+ * counted is 0 but where a table or the index is refused.
  *
  * With a string a in both tables, the farm's the byte x, the house's the byte y, and a macro m of the house, the bytes <A>| and no
- * more; with no flags, allowance 2 and room 2:
+ * more; with no flags, allowance 2 and room 2, and with the house table's index as without it:
  *   <A>b         xb, place 4, need 2, free 0              b<m>           refused 7 at 1, for the bar in the macro
  *   |!|@         the byte 128, place 4, need 1, free 1    b<c>           refused 10 at 1
  *   <321>        A, place 5, need 1, free 1               <a><a><a>      refused 12 at 6
@@ -361,7 +407,8 @@ struct nos_variable nos_look_up(const uint8_t *name, size_t name_length, const u
  *                b, place 3, need 1, free 1               <A>bc          refused 1, need 3, free 2, out as it was
  */
 struct nos_answer nos_translate(const uint8_t *text, size_t length, const uint8_t *farm, size_t farm_length, const uint8_t *house,
-                                size_t house_length, uint32_t flags, uint32_t allowance, uint8_t *out, size_t room);
+                                size_t house_length, const uint8_t *index, size_t index_length, uint32_t indexed, uint32_t flags,
+                                uint32_t allowance, uint8_t *out, size_t room);
 
 /* Evaluates an expression of signed 32-bit numbers.
  *
