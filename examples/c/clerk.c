@@ -1,6 +1,6 @@
-/* A clerk who copies quantities and reads them back, dates the rows (dates.c) and heads the pages (headings.c). What is printed was
- * checked first; at the first thing that is off the clerk says so and ends with status 1. Arguments are read as numbers; with none the
- * clerk does the whole day's work. */
+/* A clerk who copies quantities and reads them back, dates the rows (dates.c), heads the pages (headings.c) and keeps an index of the
+ * house table (indexes.c). What is printed was checked first; at the first thing that is off the clerk says so and ends with status 1.
+ * Arguments are read as numbers; with none the clerk does the whole day's work. */
 #include <inttypes.h>
 #include <stdio.h>
 #include <stdlib.h>
@@ -44,6 +44,15 @@ void check_the_rest(const uint8_t *paper, size_t size, size_t at, size_t written
     size_t behind = at + written;
     check(memcmp(paper, as_it_was, at) == 0, "every byte before what was written is as it was");
     check(memcmp(paper + behind, as_it_was + behind, size - behind) == 0, "every byte behind what was written is as it was");
+}
+
+const uint8_t *bytes_of(const char *text) { return (const uint8_t *)text; }
+
+const char *in_words(uint32_t counted)
+{
+    static const char *const words[] = {"", " in the house table", " in the farm's table", " in the index"};
+    check(counted <= NOS_IN_THE_INDEX, "a place is counted in one of four");
+    return words[counted];
 }
 
 void print_bytes(const uint8_t *bytes, size_t length)
@@ -294,6 +303,7 @@ int main(int argc, char **argv)
         readings();
         dates();
         headings();
+        indexes();
     }
     for (int i = 1; i < argc; i++) show(argv[i], "", read_number(argv[i], strlen(argv[i]), 0, NOS_NO_LIMIT));
     puts("nothing is off");

@@ -1,4 +1,4 @@
-/* What the clerk's three papers share. */
+/* What the clerk's four papers share. */
 #ifndef CLERK_H
 #define CLERK_H
 
@@ -26,6 +26,12 @@ void check_the_rest(const uint8_t *paper, size_t size, size_t at, size_t written
  * zero bytes behind it, 1 or for &28 none, or nothing does; and every other byte of the paper is as it was. */
 void check_conversion(struct nos_answer answer, size_t zeros, const uint8_t *paper, size_t size, size_t at, size_t room);
 
+/* The bytes of a string. */
+const uint8_t *bytes_of(const char *text);
+
+/* What a place is counted in, in words; the text goes without. */
+const char *in_words(uint32_t counted);
+
 /* Prints bytes as they are, and those that do not print as numbers in brackets. */
 void print_bytes(const uint8_t *bytes, size_t length);
 
@@ -34,5 +40,8 @@ void dates(void);
 
 /* The work on variables, texts and sums. */
 void headings(void);
+
+/* The work on the house table's index. */
+void indexes(void);
 
 #endif

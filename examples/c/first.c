@@ -15,7 +15,7 @@ static const char farm[] = "VR\x00\x09\x09" "Farm$Name" "Lower Ash"
 static const char house[] = "VR\x00\x09\x07" "Farm$Name" "Unnamed"
                             "VR\x00\x04\x02" "Unit" "kg";
 
-static const struct nos_tables tables = {(const uint8_t *)farm, sizeof farm - 1, (const uint8_t *)house, sizeof house - 1};
+static const struct nos_tables tables = {(const uint8_t *)farm, sizeof farm - 1, (const uint8_t *)house, sizeof house - 1, NULL, 0, 0};
 
 static const char row[] = "<Farm$Name>: <Quantity> <Unit>", wrong[] = "96 kg to <Farm$Nmae>", whole[] = "Lower Ash: 1048576 kg";
 
@@ -35,7 +35,7 @@ static struct nos_answer translate(const char *text, size_t room)
 {
     check(room <= PAPER, "no more is lent than there is");
     memset(paper, '.', PAPER);
-    return nos_translate((const uint8_t *)text, strlen(text), NOS_TABLES(tables), 0, 8, paper, room);
+    return nos_translate((const uint8_t *)text, strlen(text), NOS_INDEXED(tables), 0, 8, paper, room);
 }
 
 /* The whole row stands on the paper, and nothing was written behind it. */

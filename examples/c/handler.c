@@ -32,7 +32,7 @@ bool swi_is_memory(const struct machine *machine, uint32_t at, uint32_t length)
 
 struct nos_tables swi_tables(const struct machine *machine)
 {
-    struct nos_tables tables = {NULL, 0, machine->house, machine->house_length};
+    struct nos_tables tables = {NULL, 0, machine->house, machine->house_length, NULL, 0, 0};
     if (machine->farm != NULL) {
         tables.farm = machine->farm->bytes;
         tables.farm_length = machine->farm->length;
@@ -195,7 +195,7 @@ static struct served gs_trans(const struct machine *machine, struct registers *r
         return swi_error(BAD_ADDRESS, 0);
     size_t room = size > 0 ? size - 1 : 0; /* without the terminator */
     struct nos_tables tables = swi_tables(machine);
-    struct nos_answer answer = nos_translate(string.bytes, string.length, NOS_TABLES(tables), flags, machine->allowance,
+    struct nos_answer answer = nos_translate(string.bytes, string.length, NOS_INDEXED(tables), flags, machine->allowance,
                                              machine->memory + buffer, room);
     uint32_t need = (uint32_t)answer.need;
     if (answer.number == NOS_NO_ROOM || (answer.number == NOS_ACCEPTED && size == 0)) {

@@ -66,16 +66,18 @@ struct nos_answer __wrap_nos_convert_date(const uint8_t *time, size_t time_lengt
 }
 
 struct nos_answer __real_nos_translate(const uint8_t *text, size_t length, const uint8_t *farm, size_t farm_length,
-                                       const uint8_t *house, size_t house_length, uint32_t flags, uint32_t allowance, uint8_t *out,
-                                       size_t room);
+                                       const uint8_t *house, size_t house_length, const uint8_t *index, size_t index_length,
+                                       uint32_t indexed, uint32_t flags, uint32_t allowance, uint8_t *out, size_t room);
 struct nos_answer __wrap_nos_translate(const uint8_t *text, size_t length, const uint8_t *farm, size_t farm_length,
-                                       const uint8_t *house, size_t house_length, uint32_t flags, uint32_t allowance, uint8_t *out,
-                                       size_t room)
+                                       const uint8_t *house, size_t house_length, const uint8_t *index, size_t index_length,
+                                       uint32_t indexed, uint32_t flags, uint32_t allowance, uint8_t *out, size_t room)
 {
+    struct nos_tables tables = {farm, farm_length, house, house_length, index, index_length, indexed};
     check(are_apart(text, length, out, room), "a translation", "the buffer does not overlap the text");
     check(are_apart(farm, farm_length, out, room), "a translation", "the buffer does not overlap the farm's table");
     check(are_apart(house, house_length, out, room), "a translation", "the buffer does not overlap the house's");
-    return __real_nos_translate(text, length, farm, farm_length, house, house_length, flags, allowance, out, room);
+    check(indexed == 0, "a translation", "the handler has no index");
+    return __real_nos_translate(text, length, NOS_INDEXED(tables), flags, allowance, out, room);
 }
 
 #ifdef __cplusplus
@@ -596,7 +598,7 @@ static void long_strings(void)
 /* No message is cut. The library's words for 18 are longer than the room; the handler has its own, which the calls below see whole. */
 static void messages(void)
 {
-    for (uint32_t number = 0; number <= NOS_BAD_FIELD; number++)
+    for (uint32_t number = 0; number <= NOS_BAD_INDEX; number++)
         check(number == NOS_OVER_LENGTH || strlen(nos_words(number)) < MESSAGE_ROOM, nos_words(number),
               "there is room for the words and their zero byte");
 }

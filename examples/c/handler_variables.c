@@ -108,7 +108,7 @@ static void find_in(const uint8_t *table, size_t length, struct part wild, struc
 /* Finds the variable that a name means, or the next one of a name with wildcards. The library judges both tables in any case. */
 static struct found find(struct nos_tables tables, struct part name, struct part before)
 {
-    struct nos_variable answer = nos_look_up(name.bytes, name.length, NOS_TABLES(tables));
+    struct nos_variable answer = nos_look_up(name.bytes, name.length, NOS_INDEXED(tables));
     struct found found = {answer.number, answer.counted, {0, NULL, 0, NULL, 0, 0}};
     if (answer.number != NOS_ACCEPTED && answer.number != NOS_UNKNOWN_NAME) return found;
     if (has_wildcards(name)) {
@@ -154,7 +154,7 @@ static struct nos_answer give_value(const struct machine *machine, const struct 
     struct part value = {variable->value, variable->value_length};
     uint8_t digits[12]; /* the most that the call needs */
     if (expanded && variable->kind == NOS_MACRO)
-        return nos_translate(value.bytes, value.length, NOS_TABLES(tables), 0, machine->allowance, out, room);
+        return nos_translate(value.bytes, value.length, NOS_INDEXED(tables), 0, machine->allowance, out, room);
     if (expanded && variable->kind == NOS_INTEGER) {
         value.bytes = digits;
         value.length = nos_convert(NOS_SIGNED_4, (uint32_t)table_integer(variable), digits, sizeof digits).place;
@@ -277,7 +277,7 @@ struct content {
 static uint32_t translate(const struct machine *machine, struct content *content)
 {
     struct nos_tables tables = swi_tables(machine);
-    struct nos_answer answer = nos_translate(content->value.bytes, content->value.length, NOS_TABLES(tables), 0, machine->allowance,
+    struct nos_answer answer = nos_translate(content->value.bytes, content->value.length, NOS_INDEXED(tables), 0, machine->allowance,
                                              content->made, sizeof content->made);
     content->value.bytes = content->made;
     content->value.length = answer.need;

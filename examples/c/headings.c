@@ -35,11 +35,9 @@ enum { FARM = sizeof of_the_farm / sizeof of_the_farm[0], HOUSE = sizeof of_the_
 static const char *const kinds[] = {"a string", "an integer", "a macro"};
 
 static uint8_t farm[128], house[128];
-static struct nos_tables tables = {farm, 0, house, 0};
+static struct nos_tables tables = {farm, 0, house, 0, NULL, 0, 0};
 static uint8_t slip[2 * MARGIN + SLIP];
 static uint8_t longest[NOS_LONGEST + 1];
-
-static const uint8_t *bytes_of(const char *text) { return (const uint8_t *)text; }
 
 /* Writes a record; its length. */
 static size_t put_record(uint8_t *at, uint8_t kind, const char *name, const void *value, size_t length)
@@ -50,12 +48,6 @@ static size_t put_record(uint8_t *at, uint8_t kind, const char *name, const void
     memcpy(at + sizeof head, name, name_length);
     memcpy(at + sizeof head + name_length, value, length);
     return sizeof head + name_length + length;
-}
-
-/* What a place is counted in, in words; the text goes without. */
-static const char *in_words(uint32_t counted)
-{
-    return counted == NOS_IN_THE_FARM ? " in the farm's table" : counted == NOS_IN_THE_HOUSE ? " in the house table" : "";
 }
 
 static struct nos_checked check_table(const uint8_t *table, size_t length)
@@ -120,7 +112,7 @@ static void damage_the_table(void)
 /* Finds a variable: the table that holds it, its record's place, its kind, and its value, which lies in that table. */
 static void find(const char *name, struct nos_tables in, uint32_t counted, const struct variable *variable)
 {
-    struct nos_variable found = nos_look_up(bytes_of(name), strlen(name), NOS_TABLES(in));
+    struct nos_variable found = nos_look_up(bytes_of(name), strlen(name), NOS_INDEXED(in));
     check(found.number == NOS_ACCEPTED && found.counted == counted, name);
     check(found.place == variable->place && found.kind == variable->kind, name);
     check(found.start == found.place + 5 + strlen(name) && found.length == variable->length, name);
@@ -133,7 +125,7 @@ static void find(const char *name, struct nos_tables in, uint32_t counted, const
 
 static struct nos_tables the_house_alone(void)
 {
-    struct nos_tables alone = {NULL, 0, tables.house, tables.house_length};
+    struct nos_tables alone = {NULL, 0, tables.house, tables.house_length, NULL, 0, 0};
     return alone;
 }
 
@@ -154,7 +146,7 @@ static void look_up(void)
 static void expect_not_found(const char *name, struct nos_tables in, const char *how, uint32_t number, uint32_t counted,
                              size_t place)
 {
-    struct nos_variable answer = nos_look_up(bytes_of(name), name == NULL ? 0 : strlen(name), NOS_TABLES(in));
+    struct nos_variable answer = nos_look_up(bytes_of(name), name == NULL ? 0 : strlen(name), NOS_INDEXED(in));
     check(answer.number == number && answer.counted == counted && answer.place == place, how);
     check(answer.kind == 0 && answer.start == 0 && answer.length == 0, "a refusal has no value");
     printf("%s%s: refused %" PRIu32 " at %zu%s, %s\n", name == NULL ? "no name" : name, how, answer.number, answer.place,
@@ -164,7 +156,7 @@ static void expect_not_found(const char *name, struct nos_tables in, const char 
 /* Both tables are judged first, though the farm's has the name: their lengths, then their records, and of each the farm's first. */
 static void look_up_in_vain(void)
 {
-    static const struct nos_tables nothing = {NULL, 0, NULL, 0};
+    static const struct nos_tables nothing = {NULL, 0, NULL, 0, NULL, 0, 0};
     struct nos_tables long_farm = tables, long_house = tables;
     long_farm.farm = long_house.house = longest;
     long_farm.farm_length = long_house.house_length = sizeof longest;
@@ -172,7 +164,7 @@ static void look_up_in_vain(void)
     expect_not_found(NULL, tables, "", NOS_UNKNOWN_NAME, NOS_IN_THE_TEXT, 0);
     expect_not_found(NULL, nothing, ", no tables", NOS_UNKNOWN_NAME, NOS_IN_THE_TEXT, 0);
     expect_not_found("Certified$Fields$Diary$Entry$0001", tables, "", NOS_UNKNOWN_NAME, NOS_IN_THE_TEXT, 0);
-    struct nos_variable long_name = nos_look_up(longest, sizeof longest, NOS_TABLES(tables));
+    struct nos_variable long_name = nos_look_up(longest, sizeof longest, NOS_INDEXED(tables));
     check(long_name.number == NOS_UNKNOWN_NAME && long_name.place == 0, "a name of any length is no text");
     house[72] = 0;
     expect_not_found("Balance", tables, ", the house table being bad", NOS_BAD_TABLE, NOS_IN_THE_HOUSE, 71);
@@ -190,7 +182,7 @@ static void full_tables(void)
 {
     enum { RECORD = 9, FULL = 256 * RECORD };
     static uint8_t full[FULL + RECORD];
-    static const struct nos_tables both = {full, FULL, full, FULL}, more = {full, FULL, full, FULL + RECORD};
+    static const struct nos_tables both = {full, FULL, full, FULL, NULL, 0, 0}, more = {full, FULL, full, FULL + RECORD, NULL, 0, 0};
     static const struct variable last = {NOS_STRING, "n255", "", 0, FULL - RECORD};
     for (size_t i = 0; i <= 256; i++) {
         char name[24];
@@ -221,7 +213,7 @@ static struct asked ask_of(struct nos_tables in, const char *text, uint32_t flag
 static struct nos_answer translate(struct asked a, uint8_t *paper, size_t size, size_t at, size_t room)
 {
     remember(paper, size);
-    struct nos_answer answer = nos_translate(a.text, a.length, NOS_TABLES(a.tables), a.flags, a.allowance, paper + at, room);
+    struct nos_answer answer = nos_translate(a.text, a.length, NOS_INDEXED(a.tables), a.flags, a.allowance, paper + at, room);
     uint32_t number = answer.number;
     size_t need = answer.need, written = number == NOS_ACCEPTED ? need : 0;
     check(written <= room && answer.free == room - written, "no more is written than was lent, and the rest is free");
@@ -286,14 +278,14 @@ static void translations(void)
 /* NULL pointers that no one follows. */
 static void of_nothing(void)
 {
-    struct nos_answer nothing = nos_translate(NULL, 0, NULL, 0, NULL, 0, 0, 0, NULL, 0);
+    struct nos_answer nothing = nos_translate(NULL, 0, NULL, 0, NULL, 0, NULL, 0, 0, 0, 0, NULL, 0);
     check(nothing.number == NOS_ACCEPTED && nothing.counted == NOS_IN_THE_TEXT, "no text is accepted");
     check(nothing.place == 0 && nothing.need == 0 && nothing.free == 0, "with the need 0 and the end 0");
     printf("no text, no tables, no buffer: accepted, need %zu\n", nothing.need);
-    struct nos_answer refused = nos_translate(bytes_of("<Heading>"), 9, NOS_TABLES(tables), 0, 3, NULL, 0);
+    struct nos_answer refused = nos_translate(bytes_of("<Heading>"), 9, NOS_INDEXED(tables), 0, 3, NULL, 0);
     check(refused.number == NOS_NO_ROOM && refused.need == 16, "no buffer is refused, with the need");
     printf("<Heading>, no buffer: refused %" PRIu32 ", %s, need %zu\n", refused.number, nos_words(refused.number), refused.need);
-    struct nos_answer unknown = nos_translate(bytes_of("<Heading>"), 9, NULL, 0, NULL, 0, 0, 3, NULL, 0);
+    struct nos_answer unknown = nos_translate(bytes_of("<Heading>"), 9, NULL, 0, NULL, 0, NULL, 0, 0, 0, 3, NULL, 0);
     check(unknown.number == NOS_UNKNOWN_NAME && unknown.need == 0, "in no table every name is unknown");
     printf("<Heading>, no tables: refused %" PRIu32 " at %zu, %s\n", unknown.number, unknown.place, nos_words(unknown.number));
 }
@@ -338,7 +330,7 @@ static void refusals(void)
 /* Refusals of what is lent, before the text's own: 18 of the text, the farm's table, the house's; then 13 of the two. */
 static void bad_tables(void)
 {
-    struct nos_tables long_house = tables, both_long = {longest, sizeof longest, longest, sizeof longest};
+    struct nos_tables long_house = tables, both_long = {longest, sizeof longest, longest, sizeof longest, NULL, 0, 0};
     long_house.house = longest;
     long_house.house_length = sizeof longest;
     house[22] = 83;
@@ -360,7 +352,7 @@ static void the_largest(void)
     put_record(wide, NOS_STRING, "a", value, sizeof value);
     memset(longest, 'x', sizeof longest);
     for (size_t i = 0; i < 1024; i++) memcpy(longest + 3 * i, "<a>", 3);
-    struct asked a = {longest, NOS_LONGEST, {NULL, 0, wide, sizeof wide}, 0, NOS_NO_LIMIT};
+    struct asked a = {longest, NOS_LONGEST, {NULL, 0, wide, sizeof wide, NULL, 0, 0}, 0, NOS_NO_LIMIT};
     fill(diary, sizeof diary);
     struct nos_answer refused = translate(a, diary, sizeof diary, MARGIN, MOST - 1);
     check(refused.number == NOS_NO_ROOM && refused.need == MOST, "one byte too few is refused, with the need");

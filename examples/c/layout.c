@@ -1,5 +1,5 @@
-/* The structs of the answers lie in memory as the archive lays them. A claim that does not hold is an array of -1 bytes, which no
- * compiler takes. */
+/* The structs of the answers lie in memory as the archive lays them, and the fields of struct nos_tables in the order of the arguments.
+ * A claim that does not hold is an array of -1 bytes, which no compiler takes. */
 #include "nosgoludd.h"
 
 #define SIZE(type, size) typedef char type##_size[sizeof(struct type) == (size) ? 1 : -1]
@@ -35,3 +35,12 @@ AT(nos_value, number, 0);
 AT(nos_value, counted, 4);
 AT(nos_value, place, 8);
 AT(nos_value, value, 16);
+
+SIZE(nos_tables, 56);
+AT(nos_tables, farm, 0);
+AT(nos_tables, farm_length, 8);
+AT(nos_tables, house, 16);
+AT(nos_tables, house_length, 24);
+AT(nos_tables, index, 32);
+AT(nos_tables, index_length, 40);
+AT(nos_tables, indexed, 48);

@@ -65,6 +65,12 @@ static void replace(struct table *table, size_t place, size_t old, const uint8_t
     table->length += length - old;
 }
 
+/* Looks a name up in this table alone. */
+static struct nos_variable find(const struct table *table, const uint8_t *name, size_t name_length)
+{
+    return nos_look_up(name, name_length, table->bytes, table->length, NULL, 0, NULL, 0, 0);
+}
+
 struct table table_make(uint8_t *bytes, size_t room)
 {
     struct table table = {bytes, 0, room};
@@ -74,7 +80,7 @@ struct table table_make(uint8_t *bytes, size_t room)
 struct table_change table_set(struct table *table, const struct table_variable *variable)
 {
     uint8_t record[LONGEST_RECORD];
-    struct nos_variable found = nos_look_up(variable->name, variable->name_length, table->bytes, table->length, NULL, 0);
+    struct nos_variable found = find(table, variable->name, variable->name_length);
     bool is_new = found.number == NOS_UNKNOWN_NAME;
     if (found.number != NOS_ACCEPTED && !is_new) return changed(found.number, found.place, 0);
     size_t place = is_new ? table->length : found.place;
@@ -117,7 +123,7 @@ struct table_change table_set_macro(struct table *table, const char *name, const
 
 struct table_change table_unset(struct table *table, const uint8_t *name, size_t name_length)
 {
-    struct nos_variable found = nos_look_up(name, name_length, table->bytes, table->length, NULL, 0);
+    struct nos_variable found = find(table, name, name_length);
     if (found.number != NOS_ACCEPTED) return changed(found.number, found.place, 0);
     replace(table, found.place, record_length(table->bytes + found.place), NULL, 0);
     return changed(NOS_ACCEPTED, found.place, table->length);

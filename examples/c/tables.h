@@ -9,7 +9,9 @@
  *   struct table farm = table_make(bytes, sizeof bytes);
  *   struct table_change change = table_set_string(&farm, "Farm$Name", "Lower Ash");
  *   if (change.number != NOS_ACCEPTED) { .. nos_words(change.number) .. }
- *   struct nos_tables tables = {farm.bytes, farm.length, NULL, 0};
+ *   struct nos_tables tables = {farm.bytes, farm.length, NULL, 0, NULL, 0, 0};
+ *
+ * An index of the table does not follow its changes: nos_build_index builds it again. indexes.c does so.
  */
 #ifndef TABLES_H
 #define TABLES_H

@@ -4,9 +4,9 @@
 mod nosgoludd;
 
 use nosgoludd::{
-    check_table, convert, convert_date, convert_date_to_vec, evaluate, look_up, read_unsigned, translate, translate_to_vec,
-    Evaluated, Found, Number, Refusal, Table, Tables, Variable, BAR_PLAIN, DECIMAL, NO_LIMIT, NO_ROOM, QUOTE_PLAIN, SIGNED_4,
-    SPACED_UNSIGNED_4, SPACE_ENDS, UNSIGNED_4,
+    build_index, build_index_to_vec, check_table, convert, convert_date, convert_date_to_vec, evaluate, look_up, read_unsigned,
+    translate, translate_to_vec, Evaluated, Found, Number, Refusal, Table, Tables, Variable, BAD_INDEX, BAR_PLAIN, DECIMAL,
+    NO_LIMIT, NO_ROOM, QUOTE_PLAIN, SIGNED_4, SPACED_UNSIGNED_4, SPACE_ENDS, UNSIGNED_4,
 };
 
 /// Records one behind the other: V, R, kind, name length, value length, name, value. The house has a heading for every farm, and a
@@ -18,11 +18,11 @@ const HOUSE: &[u8] = b"VR\x00\x09\x07Farm$NameUnnamed\
                        VR\x00\x04\x02Unitkg\
                        VR\x01\x04\x04Year\xC5\x07\x00\x00";
 
-const TABLES: Tables = Tables { farm: FARM, house: HOUSE };
+const TABLES: Tables = Tables { farm: FARM, house: HOUSE, index: None };
 
 const WHOLE: &[u8] = b"Lower Ash: 1048576 kg";
 
-/// A refusal in the text that is not for lack of room.
+/// A refusal that is neither in one of the tables nor for lack of room.
 fn refused(number: u32, place: usize) -> Refusal {
     Refusal { number, place, table: None, need: 0 }
 }
@@ -84,7 +84,7 @@ fn bad_tables() {
     assert_eq!(look_up(b"Quantity", both), Err(refused_in(Table::Farm, 13, 23)));
     let long = [0; 65536];
     assert_eq!(evaluate(b"1/0", Tables { house: &long, ..cut_farm }, 0), Err(refused_in(Table::House, 18, 0)));
-    assert_eq!(evaluate(b"1/0", Tables { farm: &long, house: &long }, 0), Err(refused_in(Table::Farm, 18, 0)));
+    assert_eq!(evaluate(b"1/0", Tables { farm: &long, house: &long, index: None }, 0), Err(refused_in(Table::Farm, 18, 0)));
     assert_eq!(check_table(cut_house.house), Err(refused(13, 74)));
 }
 
@@ -196,6 +196,57 @@ fn variables() -> Result<(), Refusal> {
     Ok(())
 }
 
+/// The index of the house table: too little room, the need, and the whole; then look-ups and a translation through it.
+fn indexes() -> Result<(), Refusal> {
+    let mut buf = [b'.'; 9];
+    let refusal = build_index(HOUSE, &mut buf[..7]).expect_err("7 bytes are too few");
+    assert_eq!(refusal, Refusal { need: 8, ..refused(NO_ROOM, 0) });
+    assert_eq!(&buf, b".........", "a refusal changes no byte");
+    println!("the index of the house table with room for 7: {refusal}");
+    let index = build_index(HOUSE, &mut buf[..refusal.need])?;
+    assert_eq!(index, [0, 0, 21, 0, 63, 0, 74, 0], "Farm$Name, Heading, Unit, Year");
+    let with_index = Tables { index: Some(index), ..TABLES };
+    for name in [&b"FARM$NAME"[..], b"heading", b"Unit", b"year", b"quantity", b"Nobody", b""] {
+        assert_eq!(look_up(name, with_index), look_up(name, TABLES), "{}", shown(name));
+    }
+    assert_eq!(translate_to_vec(b"<Heading>", with_index, 0, 8)?, WHOLE);
+    assert_eq!(translate_to_vec(b"<Nobody>", with_index, 0, 8), Err(refused(10, 0)));
+    assert_eq!(evaluate(b"Year - 1989", with_index, 1)?.value, 0);
+    println!("<Heading> through it: {}", shown(WHOLE));
+
+    // the same in one call; behind what was written nothing changed, and more room gives no more
+    assert_eq!(build_index_to_vec(HOUSE)?, index);
+    assert_eq!(buf, [0, 0, 21, 0, 63, 0, 74, 0, b'.']);
+    assert_eq!(build_index(HOUSE, &mut buf)?.len(), 8);
+    assert_eq!(build_index_to_vec(b"")?, b"");
+    assert!(look_up(b"Nobody", Tables { index: Some(&[]), ..Tables::default() }) == Err(refused(10, 0)), "of no table");
+    let long = [0; 65536];
+    assert_eq!(build_index(&long, &mut buf), Err(refused_in(Table::House, 18, 0)));
+    assert_eq!(build_index_to_vec(&HOUSE[..HOUSE.len() - 1]), Err(refused_in(Table::House, 13, 74)));
+    Ok(())
+}
+
+/// An index from before an edit is refused, whatever is asked for, until it is built again.
+fn stale_index() -> Result<(), Refusal> {
+    let (mut house, index) = (HOUSE.to_vec(), build_index_to_vec(HOUSE)?);
+    house.extend(b"VR\x00\x04\x05Zonenorth");
+    let stale = Tables { house: &house, index: Some(&index), ..TABLES };
+    let refusal = look_up(b"Zone", stale).expect_err("the index lacks a record");
+    assert_eq!(refusal, refused(BAD_INDEX, 0));
+    println!("after an edit of the table: {refusal}");
+    assert_eq!(look_up(b"Nobody", stale), Err(refusal), "before an unknown name");
+    assert_eq!(translate_to_vec(b"<", stale, 0, 8), Err(refusal), "and before the text's own faults");
+    for other in [&index[..6], &[&index[..], b"\0"].concat(), b"", &[0; 65536]] {
+        assert_eq!(look_up(b"Unit", Tables { index: Some(other), ..TABLES }), Err(refusal));
+    }
+
+    let anew = build_index_to_vec(&house)?;
+    let zone = look_up(b"Zone", Tables { index: Some(&anew), ..stale })?;
+    assert_eq!(zone, Found { variable: Variable::String(b"north"), table: Table::House });
+    println!("and built again: Zone is in {}", zone.table);
+    Ok(())
+}
+
 fn main() -> Result<(), Refusal> {
     ask_twice()?;
     mistakes();
@@ -205,6 +256,8 @@ fn main() -> Result<(), Refusal> {
     with_and_without_a_zero_byte()?;
     dates()?;
     variables()?;
+    indexes()?;
+    stale_index()?;
     println!("nothing is off");
     Ok(())
 }

@@ -1,4 +1,5 @@
-//! Prints what the module has of its own copy: the header's refusals in words, and the numbers of its calls and tables. run compares.
+//! Prints what the module has of its own copy: the header's refusals in words, those that have a name, and the numbers of its calls and
+//! tables. run compares.
 
 mod nosgoludd;
 
@@ -37,6 +38,7 @@ fn main() {
     for (number, words) in WORDS.iter().enumerate() {
         println!("{number} {words}");
     }
+    println!("{NO_ROOM}\n{BAD_INDEX}");
     for call in CALLS {
         println!("{call}");
     }

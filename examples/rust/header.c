@@ -1,5 +1,5 @@
-/* Prints what the Rust module has of its own copy: the header's refusals in words, and the numbers of its calls and tables. run
- * compares. */
+/* Prints what the Rust module has of its own copy: the header's refusals in words, those that have a name there, and the numbers of its
+ * calls and tables. run compares. */
 #include <stdio.h>
 
 #include "nosgoludd.h"
@@ -16,7 +16,8 @@ static const uint32_t calls[] = {
 
 int main(void)
 {
-    for (uint32_t number = 0; number <= NOS_BAD_FIELD; number++) printf("%u %s\n", number, nos_words(number));
+    for (uint32_t number = 0; number <= NOS_BAD_INDEX; number++) printf("%u %s\n", number, nos_words(number));
+    printf("%d\n%d\n", NOS_NO_ROOM, NOS_BAD_INDEX);
     for (size_t i = 0; i < sizeof calls / sizeof calls[0]; i++) printf("%u\n", calls[i]);
     printf("%d\n%d\n", NOS_IN_THE_HOUSE, NOS_IN_THE_FARM);
     return 0;

@@ -6,7 +6,7 @@
 
 use std::fmt;
 
-/// The seven functions and their answers as the header declares them. Safe Rust has no way to break what they ask of a caller: a slice
+/// The eight functions and their answers as the header declares them. Safe Rust has no way to break what they ask of a caller: a slice
 /// is as long as it says, and nothing else reads or writes a `&mut [u8]` while it is lent. The pointer of an empty slice is not used.
 mod c {
     use std::mem::{offset_of, size_of};
@@ -64,6 +64,7 @@ mod c {
         ) -> Answer;
         pub fn nos_read_unsigned(text: *const u8, length: usize, whole: u32, limit: u32) -> Number;
         pub fn nos_check_table(table: *const u8, length: usize) -> Checked;
+        pub fn nos_build_index(table: *const u8, length: usize, out: *mut u8, room: usize) -> Answer;
         pub fn nos_look_up(
             name: *const u8,
             name_length: usize,
@@ -71,6 +72,9 @@ mod c {
             farm_length: usize,
             house: *const u8,
             house_length: usize,
+            index: *const u8,
+            index_length: usize,
+            indexed: u32,
         ) -> Variable;
         pub fn nos_translate(
             text: *const u8,
@@ -79,6 +83,9 @@ mod c {
             farm_length: usize,
             house: *const u8,
             house_length: usize,
+            index: *const u8,
+            index_length: usize,
+            indexed: u32,
             flags: u32,
             allowance: u32,
             out: *mut u8,
@@ -142,8 +149,11 @@ pub const NO_LIMIT: u32 = u32::MAX;
 /// The refusal number of "No room", the one that can be helped by asking again with more room.
 pub const NO_ROOM: u32 = 1;
 
+/// The refusal number of "Index does not fit this table", which is helped by building the index again.
+pub const BAD_INDEX: u32 = 20;
+
 /// The refusals in words, by their numbers, as the header's `nos_words` has them.
-pub const WORDS: [&str; 20] = [
+pub const WORDS: [&str; 21] = [
     "Accepted",
     "No room",
     "Bad number: no digit",
@@ -164,6 +174,7 @@ pub const WORDS: [&str; 20] = [
     "Not an integer variable",
     "Text or table over 65,535 bytes, or a time not of five",
     "Bad field",
+    "Index does not fit this table",
 ];
 
 /// The two tables that names are looked up in, each as by `check_table`: a farm's own variables, and those of the house, which all
@@ -172,6 +183,9 @@ pub const WORDS: [&str; 20] = [
 pub struct Tables<'a> {
     pub farm: &'a [u8],
     pub house: &'a [u8],
+    /// The index of the house table, if there is one: what `build_index` gives for that table as it is now. It changes no answer, and
+    /// saves time over a large table; one that does not fit is refused, by `BAD_INDEX`. `evaluate` does not look at it.
+    pub index: Option<&'a [u8]>,
 }
 
 impl<'a> Tables<'a> {
@@ -211,12 +225,12 @@ impl fmt::Display for Table {
 /// Why there is no answer.
 #[derive(Clone, Copy, Debug, PartialEq, Eq)]
 pub struct Refusal {
-    /// The number, 1 to 19.
+    /// The number, 1 to 20.
     pub number: u32,
     /// Where, in bytes from 0.
     pub place: usize,
-    /// Which of the two tables the place is counted in; none where it is in the text or the format, or in the one table of
-    /// `check_table`.
+    /// Which of the two tables the place is counted in; none where it is in the text or the format, in the one table of `check_table`,
+    /// or in the index, as that of `BAD_INDEX` is.
     pub table: Option<Table>,
     /// The room that would have been enough, where the number is `NO_ROOM`; else 0.
     pub need: usize,
@@ -305,6 +319,32 @@ pub fn check_table(table: &[u8]) -> Result<usize, Refusal> {
     Ok(a.records as usize)
 }
 
+/// Writes the index of a table to the start of `out`; the index. A refusal of the table names it as the house's, whose index it is for.
+pub fn build_index<'a>(table: &[u8], out: &'a mut [u8]) -> Result<&'a [u8], Refusal> {
+    // SAFETY: each pointer and the length behind it are those of one slice, and `out` is exclusive, so it does not overlap `table`.
+    let a = unsafe { c::nos_build_index(table.as_ptr(), table.len(), out.as_mut_ptr(), out.len()) };
+    accepted(a.number, a.counted, a.place, a.need)?;
+    Ok(&out[..a.need])
+}
+
+/// Writes the index of a table into as many bytes as it needs: asks with no room, and again with the need that the refusal carries.
+pub fn build_index_to_vec(table: &[u8]) -> Result<Vec<u8>, Refusal> {
+    match build_index(table, &mut []) {
+        Ok(_) => Ok(Vec::new()), // of an empty table
+        Err(Refusal { number: NO_ROOM, need, .. }) => {
+            let mut out = vec![0; need];
+            build_index(table, &mut out)?;
+            Ok(out)
+        }
+        Err(refusal) => Err(refusal),
+    }
+}
+
+/// The index as the library takes it: what it points to, its length, and whether it is there at all.
+fn lent(index: Option<&[u8]>) -> (*const u8, usize, u32) {
+    index.map_or((std::ptr::null(), 0, 0), |bytes| (bytes.as_ptr(), bytes.len(), 1))
+}
+
 #[derive(Clone, Copy, Debug, PartialEq, Eq)]
 pub enum Variable<'a> {
     String(&'a [u8]),
@@ -320,11 +360,24 @@ pub struct Found<'a> {
     pub table: Table,
 }
 
-/// Looks a name up: in the farm's table, then in the house's.
+/// Looks a name up: in the farm's table, then in the house's, there through the index if there is one.
 pub fn look_up<'a>(name: &[u8], tables: Tables<'a>) -> Result<Found<'a>, Refusal> {
-    let Tables { farm, house } = tables;
-    // SAFETY: each pointer and the length behind it are those of one slice.
-    let a = unsafe { c::nos_look_up(name.as_ptr(), name.len(), farm.as_ptr(), farm.len(), house.as_ptr(), house.len()) };
+    let Tables { farm, house, index } = tables;
+    let (index, index_length, indexed) = lent(index);
+    // SAFETY: each pointer and the length behind it are those of one slice; an index that is not there has no bytes.
+    let a = unsafe {
+        c::nos_look_up(
+            name.as_ptr(),
+            name.len(),
+            farm.as_ptr(),
+            farm.len(),
+            house.as_ptr(),
+            house.len(),
+            index,
+            index_length,
+            indexed,
+        )
+    };
     accepted(a.number, a.counted, a.place, 0)?;
     let table = Table::counted_by(a.counted).expect("a variable stands in one of the tables");
     let value = &tables.bytes_of(table)[a.start..][..a.length as usize];
@@ -348,12 +401,14 @@ pub struct Translated<'a> {
 /// Translates a text into the start of `out`. Empty tables know no name; no translation takes more than 1,024 look-ups.
 pub fn translate<'a>(
     text: &[u8],
-    Tables { farm, house }: Tables,
+    Tables { farm, house, index }: Tables,
     flags: u32,
     allowance: u32,
     out: &'a mut [u8],
 ) -> Result<Translated<'a>, Refusal> {
-    // SAFETY: each pointer and the length behind it are those of one slice, and `out` is exclusive, so it overlaps no other.
+    let (index, index_length, indexed) = lent(index);
+    // SAFETY: each pointer and the length behind it are those of one slice, an index that is not there has no bytes, and `out` is
+    // exclusive, so it overlaps no other.
     let a = unsafe {
         c::nos_translate(
             text.as_ptr(),
@@ -362,6 +417,9 @@ pub fn translate<'a>(
             farm.len(),
             house.as_ptr(),
             house.len(),
+            index,
+            index_length,
+            indexed,
             flags,
             allowance,
             out.as_mut_ptr(),
@@ -393,7 +451,7 @@ pub struct Evaluated {
 }
 
 /// Evaluates an expression of signed 32-bit numbers over two tables of variables.
-pub fn evaluate(text: &[u8], Tables { farm, house }: Tables, allowance: u32) -> Result<Evaluated, Refusal> {
+pub fn evaluate(text: &[u8], Tables { farm, house, .. }: Tables, allowance: u32) -> Result<Evaluated, Refusal> {
     // SAFETY: each pointer and the length behind it are those of one slice.
     let a =
         unsafe { c::nos_evaluate(text.as_ptr(), text.len(), farm.as_ptr(), farm.len(), house.as_ptr(), house.len(), allowance) };
