@@ -4,7 +4,8 @@
  * Whatever is lent is watched. A slice stands, in turn, between known bytes, or at the start or the end of an area where an
  * unreadable page begins: a byte read or written there ends this program. An answer has " touched" behind it where a byte changed
  * that must not: in what was lent to be read, beside a slice, in a buffer behind what was written, or anywhere in one after a refusal.
- * It has " odd" behind it where a field of the answer that the line does not show is not as the header says. */
+ * It has " odd" behind it where a field of the answer that the line does not show is not as the header says. Where there is no index,
+ * something stands in its stead that must count for nothing: any length, with NULL or an unreadable page. */
 #define _GNU_SOURCE
 #include <inttypes.h>
 #include <stdbool.h>
@@ -27,7 +28,8 @@ struct area {
 };
 
 /* A name or a format is lent as a text, and a table that is alone as the house's. */
-static struct area text, farm, house, moment, buffer;
+static struct area text, farm, house, places, moment, buffer; /* `places`: an index */
+static bool has_index;
 static uint8_t known[AREA + TURNS]; /* the known bytes, read from another place for each case */
 static size_t turn;
 
@@ -97,6 +99,13 @@ static bool is_whole(const struct area *area)
     for (size_t i = 0; i < area->length; i++)
         if (area->lent[i] != byte_of(area->digits + 2 * i)) return false;
     return is_whole_behind(area, area->length);
+}
+
+/* A number for yes: any but 0. There are four in turn, and so each of them comes with each way to lend. */
+static uint32_t yes(void)
+{
+    static const uint32_t other_than_0[] = {1, 2, 1u << 31, UINT32_MAX};
+    return other_than_0[turn % 4];
 }
 
 /* How far a line is read; at a bad field `at` becomes NULL and stays so. A space stands before each field. */
@@ -204,11 +213,10 @@ static bool date(struct line line)
 
 static bool read_number(struct line line)
 {
-    static const uint32_t other_than_0[] = {1, 1u << 31, UINT32_MAX};
     take_bytes(&line, &text);
     uint32_t whole = take_number(&line), limit = take_limit(&line);
     if (!is_done(&line) || whole > 1) return false;
-    struct nos_number answer = nos_read_unsigned(lent_by(&text), text.length, whole ? other_than_0[turn % 3] : 0, limit);
+    struct nos_number answer = nos_read_unsigned(lent_by(&text), text.length, whole ? yes() : 0, limit);
     if (answer.number == NOS_ACCEPTED) {
         printf("val %" PRIu32 " %zu", answer.value, answer.place);
         return end_line(is_whole(&text), true);
@@ -230,16 +238,65 @@ static bool check(struct line line)
     return end_line(is_whole(&house), answer.records == 0);
 }
 
-static struct nos_tables both_tables(void)
+/* Takes the two tables. Operations that know no index leave it at that. */
+static void take_tables(struct line *line)
 {
-    struct nos_tables tables = {lent_by(&farm), farm.length, lent_by(&house), house.length};
+    take_bytes(line, &farm);
+    take_bytes(line, &house);
+    has_index = false;
+}
+
+/* Takes the index that is to go with the tables, an "x" where there is none. */
+static void take_index(struct line *line)
+{
+    has_index = line->at == NULL || strncmp(line->at, " x", 2) != 0;
+    if (has_index) take_bytes(line, &places);
+    else line->at += 2;
+}
+
+static struct nos_tables all_tables(void)
+{
+    static const size_t any_length[] = {2, 0, 512, SIZE_MAX};
+    struct nos_tables tables = {lent_by(&farm), farm.length, lent_by(&house), house.length, lent_by(&places), places.length, yes()};
+    if (has_index) return tables;
+    tables.index = turn % 3 == 0 ? NULL : places.start + AREA; /* where the unreadable page begins */
+    tables.index_length = any_length[turn % 4];
+    tables.indexed = 0;
     return tables;
 }
 
-static bool are_whole(void) { return is_whole(&text) && is_whole(&farm) && is_whole(&house); }
+static bool are_whole(void) { return is_whole(&text) && is_whole(&farm) && is_whole(&house) && (!has_index || is_whole(&places)); }
 
 /* The letter for what a place is counted in. No line of answer has a "?". */
-static char counted_in(uint32_t counted) { return counted <= NOS_IN_THE_FARM ? "thf"[counted] : '?'; }
+static char counted_in(uint32_t counted) { return counted <= NOS_IN_THE_INDEX ? "thfi"[counted] : '?'; }
+
+/* Writes what is shown of an answer with a need. `is_silent`: of an accepted one the place is not shown, and 0. */
+static bool end_written(struct nos_answer answer, bool is_silent, bool whole)
+{
+    size_t written = 0;
+    bool as_said = true;
+    if (answer.number == NOS_ACCEPTED) {
+        written = answer.need <= buffer.length ? answer.need : buffer.length;
+        printf("ok ");
+        put_hex(buffer.lent, written);
+        if (!is_silent) printf(" %zu", answer.place);
+        printf(" %zu %zu", answer.need, answer.free);
+        as_said = answer.counted == NOS_IN_THE_TEXT && (!is_silent || answer.place == 0);
+    } else {
+        printf("no %" PRIu32 " %c %zu %zu %zu", answer.number, counted_in(answer.counted), answer.place, answer.need, answer.free);
+    }
+    return end_line(whole && is_whole_behind(&buffer, written), as_said);
+}
+
+static bool build(struct line line)
+{
+    take_bytes(&line, &house);
+    uint32_t room = take_number(&line);
+    if (!is_done(&line) || room > MOST_ROOM) return false;
+    lend(&buffer, room);
+    struct nos_answer answer = nos_build_index(lent_by(&house), house.length, lent_by(&buffer), room);
+    return end_written(answer, true, is_whole(&house));
+}
 
 /* The table that a variable was found in. */
 static const struct area *holder_of(struct nos_variable found) { return found.counted == NOS_IN_THE_FARM ? &farm : &house; }
@@ -254,17 +311,16 @@ static bool is_in_its_record(struct nos_variable found)
         && found.start + found.length <= table->length;
 }
 
-static bool look(struct line line)
+/* Looks the text up as a name. `is_alone`: the house table is the only one, and an answer does not show which holds the record. */
+static bool look_up(bool is_alone)
 {
-    take_bytes(&line, &farm);
-    take_bytes(&line, &house);
-    take_bytes(&line, &text);
-    if (!is_done(&line)) return false;
-    struct nos_tables tables = both_tables();
-    struct nos_variable answer = nos_look_up(lent_by(&text), text.length, NOS_TABLES(tables));
+    struct nos_tables tables = all_tables();
+    struct nos_variable answer = nos_look_up(lent_by(&text), text.length, NOS_INDEXED(tables));
     if (answer.number == NOS_ACCEPTED) {
-        bool as_said = is_in_its_record(answer);
-        printf("rec %c %zu %" PRIu32 " ", counted_in(answer.counted), answer.place, answer.kind);
+        bool as_said = is_in_its_record(answer) && (!is_alone || answer.counted == NOS_IN_THE_HOUSE);
+        printf("rec ");
+        if (!is_alone) printf("%c ", counted_in(answer.counted));
+        printf("%zu %" PRIu32 " ", answer.place, answer.kind);
         if (as_said) put_hex(holder_of(answer)->lent + answer.start, answer.length);
         return end_line(are_whole(), as_said);
     }
@@ -278,46 +334,54 @@ static bool look(struct line line)
     return end_line(are_whole(), as_said);
 }
 
-/* The field for an index, which no operation takes: an "x". */
-static void take_no_index(struct line *line)
+static bool look(struct line line)
 {
-    if (line->at != NULL) line->at = strncmp(line->at, " x", 2) == 0 ? line->at + 2 : NULL;
+    take_tables(&line);
+    take_bytes(&line, &text);
+    return is_done(&line) && look_up(false);
+}
+
+/* The same with a field for an index. */
+static bool look_with_index(struct line line)
+{
+    take_tables(&line);
+    take_index(&line);
+    take_bytes(&line, &text);
+    return is_done(&line) && look_up(false);
+}
+
+/* Through an index in one table. */
+static bool look_through(struct line line)
+{
+    lend(&farm, 0);
+    take_bytes(&line, &house);
+    take_bytes(&line, &places);
+    has_index = true;
+    take_bytes(&line, &text);
+    return is_done(&line) && look_up(true);
 }
 
 static bool trans(struct line line)
 {
     take_bytes(&line, &text);
-    take_bytes(&line, &farm);
-    take_bytes(&line, &house);
-    take_no_index(&line);
+    take_tables(&line);
+    take_index(&line);
     uint32_t flags = take_number(&line), allowance = take_number(&line), room = take_number(&line);
     if (!is_done(&line) || room > MOST_ROOM) return false;
     lend(&buffer, room);
-    struct nos_tables tables = both_tables();
-    struct nos_answer answer = nos_translate(lent_by(&text), text.length, NOS_TABLES(tables), flags, allowance, lent_by(&buffer),
+    struct nos_tables tables = all_tables();
+    struct nos_answer answer = nos_translate(lent_by(&text), text.length, NOS_INDEXED(tables), flags, allowance, lent_by(&buffer),
                                              room);
-    size_t written = 0;
-    bool as_said = true;
-    if (answer.number == NOS_ACCEPTED) {
-        written = answer.need <= room ? answer.need : room;
-        printf("ok ");
-        put_hex(buffer.lent, written);
-        printf(" %zu %zu %zu", answer.place, answer.need, answer.free);
-        as_said = answer.counted == NOS_IN_THE_TEXT;
-    } else {
-        printf("no %" PRIu32 " %c %zu %zu %zu", answer.number, counted_in(answer.counted), answer.place, answer.need, answer.free);
-    }
-    return end_line(are_whole() && is_whole_behind(&buffer, written), as_said);
+    return end_written(answer, false, are_whole());
 }
 
 static bool eval(struct line line)
 {
     take_bytes(&line, &text);
-    take_bytes(&line, &farm);
-    take_bytes(&line, &house);
+    take_tables(&line);
     uint32_t allowance = take_number(&line);
     if (!is_done(&line)) return false;
-    struct nos_tables tables = both_tables();
+    struct nos_tables tables = all_tables();
     struct nos_value answer = nos_evaluate(lent_by(&text), text.length, NOS_TABLES(tables), allowance);
     if (answer.number == NOS_ACCEPTED) {
         printf("int %" PRId32 " %zu", answer.value, answer.place);
@@ -330,8 +394,8 @@ static bool eval(struct line line)
 static bool answer_line(const char *line)
 {
     static const struct { const char *word; bool (*answer)(struct line); } operations[] = {
-        {"conv ", conv}, {"date ", date}, {"read ", read_number}, {"table ", check}, {"look ", look}, {"trans ", trans},
-        {"eval ", eval},
+        {"conv ", conv}, {"date ", date}, {"read ", read_number}, {"table ", check}, {"index ", build}, {"look ", look},
+        {"flook ", look_with_index}, {"ilook ", look_through}, {"trans ", trans}, {"eval ", eval},
     };
     for (size_t i = 0; i < sizeof operations / sizeof operations[0]; i++) {
         size_t length = strlen(operations[i].word);
@@ -345,6 +409,7 @@ int main(void)
     make_area(&text);
     make_area(&farm);
     make_area(&house);
+    make_area(&places);
     make_area(&moment);
     make_area(&buffer);
     for (size_t i = 0; i < sizeof known; i++) known[i] = (uint8_t)(0x5A + i * 167 + i / 256 * 59);

@@ -1,7 +1,7 @@
 /* Measures how much stack a call of the library takes: each one runs on a stack of its own, filled with a known byte, and the lowest
  * byte that changed tells. The inputs are the deepest that there are: macros in macros and brackets in brackets, 16 of them, around
- * what each level can hold, over two tables of 256 records each. Ends with status 1 where more than NOS_STACK was taken. tests/stack
- * runs it. */
+ * what each level can hold, over two tables of 256 records each, with an index and without. Ends with status 1 where more than NOS_STACK
+ * was taken. tests/stack runs it. */
 #define _GNU_SOURCE
 #include <inttypes.h>
 #include <stdio.h>
@@ -14,8 +14,9 @@
 
 enum { STACK = 1 << 20, FILL = 0xA5, DEEPEST = 16 };
 
-static uint8_t *stack, farm[NOS_LONGEST], house[NOS_LONGEST], out[1 << 19];
-static struct nos_tables tables = {farm, 0, house, 0};
+static uint8_t *stack, farm[NOS_LONGEST], house[NOS_LONGEST], backward[NOS_LONGEST], places[512], out[1 << 19];
+static struct nos_tables tables = {farm, 0, house, 0, places, 0, 0};
+static size_t backward_length;
 static char text[NOS_LONGEST];
 static size_t most;
 static ucontext_t here, there;
@@ -89,12 +90,12 @@ static void add_record(uint8_t *table, size_t *at, uint8_t kind, const char *nam
     *at += 5u + head[3] + length;
 }
 
-/* Brings a table of so many records up to 256, by names that differ in their last digits alone. */
-static void fill_up(uint8_t *table, size_t *at, int records, int first)
+/* Brings a table of so many records up to 256, by names that differ in their last digits alone and go up or down by the step. */
+static void fill_up(uint8_t *table, size_t *at, int records, int first, int step)
 {
     char name[33];
     for (int i = records; i < 256; i++) {
-        sprintf(name, "Certified$Fields$Diary$Entry%04d", first + i);
+        sprintf(name, "Certified$Fields$Diary$Entry%04d", first + step * i);
         add_record(table, at, NOS_STRING, name, "v", 1);
     }
 }
@@ -112,8 +113,9 @@ static void make_tables(void)
         sprintf(value, "\"a |!|@ <s><i><36_Z> and so on with more than sixteen bytes<m%d>\"\"|?\"", i - 1);
         add_record(i % 2 ? farm : house, i % 2 ? &tables.farm_length : &tables.house_length, NOS_MACRO, name, value, strlen(value));
     }
-    fill_up(farm, &tables.farm_length, DEEPEST / 2, 0);
-    fill_up(house, &tables.house_length, 3 + DEEPEST / 2, 256);
+    fill_up(farm, &tables.farm_length, DEEPEST / 2, 0, 1);
+    fill_up(house, &tables.house_length, 3 + DEEPEST / 2, 256, 1);
+    fill_up(backward, &backward_length, 0, 255, -1);
 }
 
 static void expect_full(const uint8_t *table, size_t length)
@@ -131,16 +133,44 @@ static void check(void)
     expect_full(house, tables.house_length);
 }
 
+/* Indexes of names that stand in their order, in the opposite one, and mixed with others; the last one stays, as the house's. */
+static void build(void)
+{
+    expect(nos_build_index(farm, tables.farm_length, out, sizeof places).number, 0);
+    expect(nos_build_index(backward, backward_length, out, sizeof places).number, 0);
+    expect(nos_build_index(house, tables.house_length, places, sizeof places - 1).number, NOS_NO_ROOM);
+    expect(nos_build_index(house, tables.house_length - 1, places, sizeof places).number, NOS_BAD_TABLE);
+    struct nos_answer answer = nos_build_index(house, tables.house_length, places, sizeof places);
+    expect(answer.number, 0);
+    tables.index_length = answer.need;
+}
+
+static uint32_t looked_up(const char *name) { return nos_look_up((const uint8_t *)name, strlen(name), NOS_INDEXED(tables)).number; }
+
 static void look_up(void)
 {
-    expect(nos_look_up((const uint8_t *)"CERTIFIED$Fields$Diary$Entry0255", 32, NOS_TABLES(tables)).number, 0);
-    expect(nos_look_up((const uint8_t *)"CERTIFIED$Fields$Diary$Entry0511", 32, NOS_TABLES(tables)).number, 0);
-    expect(nos_look_up((const uint8_t *)"nobody", 6, NOS_TABLES(tables)).number, NOS_UNKNOWN_NAME);
+    expect(looked_up("CERTIFIED$Fields$Diary$Entry0255"), 0);
+    expect(looked_up("CERTIFIED$Fields$Diary$Entry0511"), 0);
+    expect(looked_up("nobody"), NOS_UNKNOWN_NAME);
+}
+
+/* The first and the last name of the index too, and two indexes that do not fit: by a byte, and by their length. */
+static void look_up_through(void)
+{
+    look_up();
+    expect(looked_up("CERTIFIED$Fields$Diary$Entry0267"), 0);
+    expect(looked_up("S"), 0);
+    places[0] ^= 1;
+    expect(looked_up("s"), NOS_BAD_INDEX);
+    places[0] ^= 1;
+    tables.index_length--;
+    expect(looked_up("s"), NOS_BAD_INDEX);
+    tables.index_length++;
 }
 
 static uint32_t translated(const char *of, uint32_t flags, uint32_t allowance, size_t room)
 {
-    return nos_translate((const uint8_t *)of, strlen(of), NOS_TABLES(tables), flags, allowance, out, room).number;
+    return nos_translate((const uint8_t *)of, strlen(of), NOS_INDEXED(tables), flags, allowance, out, room).number;
 }
 
 static void translations(void)
@@ -199,8 +229,12 @@ int main(void)
     measure("nos_convert_date, every field", dates);
     measure("nos_read_unsigned", readings);
     measure("nos_check_table, 256 records", check);
+    measure("nos_build_index, 256 records", build);
     measure("nos_look_up, 256 records in each table", look_up);
     measure("nos_translate, 16 macros in one another", translations);
+    tables.indexed = 1;
+    measure("nos_look_up through an index", look_up_through);
+    measure("nos_translate through an index", translations);
     measure("nos_evaluate, 16 brackets in one another", brackets);
     measure("nos_evaluate, 16 signs over one operand", signs);
     printf("the most is %zu bytes, and NOS_STACK is %u\n", most, NOS_STACK);
