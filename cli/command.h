@@ -14,6 +14,7 @@ enum option {
     OPTION_NONE, /* ends a command's list */
     OPTION_TABLE,
     OPTION_FARM,
+    OPTION_INDEX,
     OPTION_ALLOWANCE,
     OPTION_ROOM,
     OPTION_SPACE_ENDS,

@@ -5,6 +5,7 @@
 #include "command.h"
 
 extern const struct command translate_command, eval_command, convert_command, read_command, date_command;
-extern const struct command table_check_command, table_show_command, table_make_command, table_set_command, table_unset_command;
+extern const struct command table_check_command, table_show_command, table_make_command, table_set_command, table_unset_command,
+    table_index_command;
 
 #endif

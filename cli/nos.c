@@ -13,7 +13,7 @@
 
 static const struct command *const commands[] = {
     &translate_command, &eval_command, &convert_command, &read_command, &date_command,
-    &table_check_command, &table_show_command, &table_make_command, &table_set_command, &table_unset_command,
+    &table_check_command, &table_show_command, &table_make_command, &table_set_command, &table_unset_command, &table_index_command,
 };
 
 enum { COMMANDS = sizeof commands / sizeof commands[0] };

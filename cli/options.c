@@ -15,6 +15,7 @@ static const struct form {
 } forms[OPTION_COUNT] = {
     [OPTION_TABLE] = {"--table", A_FILE_TO_READ, "HOUSE", "the house's table of variables; without it there is none"},
     [OPTION_FARM] = {"--farm", A_FILE_TO_READ, "FARM", "the farm's own table, in which names are looked up first"},
+    [OPTION_INDEX] = {"--index", A_FILE_TO_READ, "INDEX", "the house table's index, as `nos table index` writes it"},
     [OPTION_ALLOWANCE] = {"--allowance", A_NUMBER, "N", "allow N look-ups of names; 1,024 without it, which is also the most"},
     [OPTION_ROOM] = {"--room", A_NUMBER, "N", "refuse what needs more than N bytes; without it there is room for everything"},
     [OPTION_SPACE_ENDS] = {"--space-ends", NO_VALUE, "", "a space ends the text, too"},

@@ -38,6 +38,7 @@ static const struct advice {
     {NOS_OVER_LENGTH, OF_THE_FARM, long_table},
     {NOS_OVER_LENGTH, OF_A_TABLE, long_table},
     {NOS_OVER_LENGTH, ANY, "it may have 65,535 bytes at most: give it in parts"},
+    {NOS_BAD_INDEX, ANY, "it is another table's, or this one's before it was changed: build it anew with `nos table index`"},
     {NOS_BAD_FIELD, ANY, "no such field, or one in small letters: mend it; a percent sign that is to stay one is written %%"},
 };
 
@@ -62,6 +63,7 @@ void subject_name(const struct subject *subject, struct bytes *words)
     case OF_THE_HOUSE: bytes_print(words, "the house table %s", subject->file); break;
     case OF_THE_FARM: bytes_print(words, "the farm's table %s", subject->file); break;
     case OF_A_TABLE: bytes_print(words, "the table %s", subject->file); break;
+    case OF_THE_INDEX: bytes_print(words, "the index %s", subject->file); break;
     }
     bytes_append(words, "", 1);
 }
@@ -108,7 +110,7 @@ static bool has_bytes_to_show(const struct subject *subject)
 {
     switch (subject->counted) {
     case OF_A_TEXT: case OF_A_LINE: case OF_AN_EXPRESSION: case OF_A_NUMBER: case OF_A_FORMAT: return true;
-    case OF_A_TIME: case OF_A_CALL: case OF_THE_HOUSE: case OF_THE_FARM: case OF_A_TABLE: break;
+    case OF_A_TIME: case OF_A_CALL: case OF_THE_HOUSE: case OF_THE_FARM: case OF_A_TABLE: case OF_THE_INDEX: break;
     }
     return false;
 }

@@ -19,16 +19,17 @@ enum counted {
     OF_A_CALL, /* has no bytes, and so no place */
     OF_THE_HOUSE,
     OF_THE_FARM,
-    OF_A_TABLE
+    OF_A_TABLE,
+    OF_THE_INDEX
 };
 
 /* A text, an expression, a table, .. that the library judges. */
 struct subject {
     enum counted counted;
-    const uint8_t *bytes; /* shown with a caret; not used of a table, a call or a time */
+    const uint8_t *bytes; /* shown with a caret; not used of a table, an index, a call or a time */
     size_t length;
     size_t line;      /* of a line alone: its number */
-    const char *file; /* of a table alone */
+    const char *file; /* of a table or an index alone */
 };
 
 struct refusal {

@@ -34,7 +34,7 @@ static uint32_t flags_asked(const struct request *request)
 static struct nos_answer ask(struct work *work, const uint8_t *text, size_t length)
 {
     bytes_reserve(&work->out, work->room);
-    return nos_translate(text, length, NOS_TABLES(work->lookups.tables), work->flags, work->lookups.allowance,
+    return nos_translate(text, length, NOS_INDEXED(work->lookups.tables), work->flags, work->lookups.allowance,
                          work->out.at + work->out.length, work->room);
 }
 
@@ -46,15 +46,24 @@ static bool lies_in_macro(struct work *work, const struct subject *text, struct 
     const uint8_t *start = text->bytes + answer.place, *name = start + 1;
     const uint8_t *end = memchr(start, '>', text->length - answer.place);
     if (end == NULL || *start != '<') return false;
-    struct nos_variable found = nos_look_up(name, (size_t)(end - name), NOS_TABLES(work->lookups.tables));
+    struct nos_variable found = nos_look_up(name, (size_t)(end - name), NOS_INDEXED(work->lookups.tables));
     bool is_macro = found.number == NOS_ACCEPTED && found.kind == NOS_MACRO;
     return is_macro && ask(work, start, (size_t)(end - start) + 1).number == answer.number;
+}
+
+/* An index that comes without its table is refused as any other that does not fit, but it is the table that is missing. NULL: what there
+ * is to say for the number. */
+static const char *advice_for_index(const struct work *work, struct nos_answer answer)
+{
+    if (answer.number != NOS_BAD_INDEX || work->lookups.house_file != NULL) return NULL;
+    return "there is no house table, and the index of an empty one is empty: give its table with --table";
 }
 
 static void tell_refusal(struct work *work, const struct subject *text, struct nos_answer answer)
 {
     struct subject subject = subject_of(&work->lookups, answer.counted, text);
-    struct refusal refusal = {answer.number, answer.place, answer.need, work->room, lies_in_macro(work, text, answer), NULL};
+    struct refusal refusal = {answer.number, answer.place, answer.need, work->room, lies_in_macro(work, text, answer),
+                              advice_for_index(work, answer)};
     say_refusal(&subject, &refusal);
     work->refused = true;
 }
@@ -82,7 +91,8 @@ static bool translate_whole(struct work *work, const char *file)
     return was_read;
 }
 
-/* The tables are asked about once, with the empty text: a bad one is no matter of a line, and is refused without any line, too. */
+/* The tables and the index are asked about once, with the empty text: a bad one is no matter of a line, and is refused without any
+ * line, too. */
 static bool tables_are_good(struct work *work)
 {
     static const uint8_t nothing[1];
@@ -134,8 +144,8 @@ static enum status translate(const struct request *request)
 }
 
 static const enum option options[] = {
-    OPTION_TABLE, OPTION_FARM, OPTION_ALLOWANCE, OPTION_ROOM, OPTION_SPACE_ENDS, OPTION_BAR_PLAIN, OPTION_QUOTE_PLAIN, OPTION_LINES,
-    OPTION_STRICT, OPTION_OUTPUT, OPTION_NONE,
+    OPTION_TABLE, OPTION_FARM, OPTION_INDEX, OPTION_ALLOWANCE, OPTION_ROOM, OPTION_SPACE_ENDS, OPTION_BAR_PLAIN, OPTION_QUOTE_PLAIN,
+    OPTION_LINES, OPTION_STRICT, OPTION_OUTPUT, OPTION_NONE,
 };
 
 const struct command translate_command = {

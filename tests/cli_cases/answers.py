@@ -3,11 +3,11 @@
 import re
 
 from . import header, variables
-from .commands import COMMANDS, TABLE_COMMANDS
+from .commands import ALL, COMMANDS, TABLE_COMMANDS
 from .header import TIME
 from .messages import SAY_LINES, after, no_room, refusal
 from .trial import Case, accepted, refused
-from .variables import FARM, HOUSE, integer, macro, string, table
+from .variables import FARM, HOUSE, index, integer, macro, string, table
 
 VALUE = 1048576
 DECIMAL, X_FORM = 0x28, 0x20000
@@ -240,6 +240,10 @@ def of_tables():
     yield accepted("table show -", variables.text(*FARM), given=table(*FARM))
     yield accepted("table show t", "", files={"t": b""})
     yield accepted("table show -o out t", makes={"out": variables.text(*FARM)}, files={"t": table(*FARM)})
+    yield accepted("table index t", index(*three), files={"t": table(*three)})
+    yield accepted("table index -", index(*three), given=table(*three))
+    yield accepted("table index t", "", files={"t": b""})
+    yield accepted("table index -o out t", makes={"out": index(*FARM)}, files={"t": table(*FARM)})
 
 
 def help_of(args, must_have):
@@ -265,8 +269,9 @@ def version(trial):
 def of_help():
     yield help_of("--help", ["nos", *COMMANDS, *TABLE_COMMANDS, "--help", "--version"])
     yield help_of("table --help", ["nos table", *TABLE_COMMANDS])
-    for name, command in COMMANDS.items():
-        yield help_of(f"{name} --help", [f"nos {name}", *command.valued, *command.flags])
+    for name, command in ALL.items():
+        asked = " ".join(name)
+        yield help_of(f"{asked} --help", [f"nos {asked}", *command.valued, *command.flags])
     yield Case("nos --version", version)
 
 

@@ -3,7 +3,7 @@
 from typing import NamedTuple
 
 from .header import TIME
-from .variables import FARM, HOUSE, string, table, text
+from .variables import FARM, HOUSE, index, string, table, text
 
 NOT_NUMBERS = ("", "x", "12x", "-", "4294967296", " 5", "5 ", "+5", "0x10", "&", "&G", "37_1", "2_", "2_2", "1,024",
                "99999999999999999999")
@@ -36,7 +36,7 @@ TABLES = {"farm": table(*FARM), "house": table(*HOUSE)}
 TWO = ("--table", "--farm")
 
 COMMANDS = {
-    "translate": Synopsis((), 0, 1, b"Ash", ("--allowance", "--room"), (*TWO, "-o"),
+    "translate": Synopsis((), 0, 1, b"Ash", ("--allowance", "--room"), (*TWO, "--index", "-o"),
                           ("--space-ends", "--bar-plain", "--quote-plain", "--lines", "--strict"), b"Ash", files={"t": b""}),
     "eval": Synopsis(("6*7",), 1, 1, b"42\n", ("--allowance",), (*TWO, "-o"), ("--strict",), files={"t": b""}),
     "convert": Synopsis(("hex2", "255"), 2, 2, b"FF\n", ("--room",), ("-o",)),
@@ -51,6 +51,7 @@ TABLE_COMMANDS = {
     "set": Synopsis(("t", "Remark", "string", "wet"), 4, 4, files={"t": TABLE},
                     makes={"t": TABLE + string(b"Remark", b"wet").record()}),
     "unset": Synopsis(("t", "quantity"), 2, 2, files={"t": TABLE}, makes={"t": table(FARM[0])}),
+    "index": Synopsis(("t",), 1, 1, index(*FARM), ("--room",), ("-o",), files={"t": TABLE}),
 }
 
 ALL = {**{(name,): synopsis for name, synopsis in COMMANDS.items()},

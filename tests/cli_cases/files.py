@@ -6,7 +6,7 @@ import time
 from .header import LONG, TIME
 from .messages import refusal
 from .trial import Case, accepted, cannot, title, wrong_usage
-from .variables import FARM, ONE, string, table, text
+from .variables import FARM, ONE, index, string, table, text
 
 
 # every way in which a file is read: a command that reads one of the name %s, its bytes, and the answer
@@ -15,12 +15,16 @@ READ = [
     ("translate --lines %s", b"Ash\n", b"Ash\n"),
     ("translate --table %s text", ONE, b"x"),
     ("translate text --farm=%s", ONE, b"x"),
+    ("translate --table house --index %s text", b"\0\0", b"x"),
+    ("translate --lines text --index=%s --table house", b"\0\0", b"x"),
     ("eval --table %s 1", ONE, b"1\n"),
     ("eval 1 --farm %s", ONE, b"1\n"),
     ("date %%CE%%YR --from %s", bytes.fromhex(TIME), b"1989\n"),
     ("date %%CE%%YR --from %s --at 0", bytes.fromhex(TIME), b"1989\n"),
     ("table check %s", table(*FARM), b"good: 2 variables, %d bytes\n" % len(table(*FARM))),
     ("table show %s", table(*FARM), text(*FARM)),
+    ("table index %s", table(*FARM), index(*FARM)),
+    ("table index %s --room 4", table(*FARM), index(*FARM)),
 ]
 # those that change it, or make another one: what is in the folder then
 CHANGED = [
@@ -29,7 +33,7 @@ CHANGED = [
     ("table make new %s", "new", b"a string x\n", ONE),
 ]
 EVERY_WAY = [args for args, *_ in READ + CHANGED]
-BESIDE = {"text": b"<a>"}
+BESIDE = {"text": b"<a>", "house": ONE}
 
 
 def of_files_that_are_there():
@@ -57,12 +61,14 @@ def of_what_comes_first():
     """Usage, then files, then the library."""
     for args in ("translate --room x missing", "translate missing missing", "translate --table missing --nonsense",
                  "eval --table missing", "date --from missing", "date %DY --from missing --at x", "table check missing x",
+                 "translate --index missing --room x", "table index missing x", "table index missing --room x",
                  "table make new missing x",
                  "table set missing a strong x", "table set missing a integer x", r"table set missing a string '\q'",
                  r"table set missing '\q' string a", r"table unset missing '\q'"):
         yield wrong_usage(args)
     for args in ("translate --table missing --room 0", "translate --farm missing --strict",
-                 "translate --table long --farm missing"):
+                 "translate --table long --farm missing", "translate --table long --index missing",
+                 "translate --table missing --index long", "translate --index missing --room 0", "table index --room 0 missing"):
         yield cannot(args, "missing", files={"long": LONG}, given=LONG)
     for args in ("eval --table missing '('", "eval --farm long --table missing 1/0", "date %mn --from missing",
                  "date --room 0 %DY --from missing", "table set missing '' string x", "table unset missing ''"):
@@ -71,10 +77,11 @@ def of_what_comes_first():
 
 def of_closed_input():
     for args in ("translate", "translate -", "translate --lines", "table check -", "table show -", "table make new",
-                 "table make new -", "date %DY --from -"):
+                 "table make new -", "date %DY --from -", "table index -", "table index - -o new"):
         yield cannot(args, shell='exec "$@" <&-')
     # a file that is read first gets the number of the closed standard input, and must not be taken for it
-    for args in ("translate --table t", "translate --lines --farm t -", "date %DY --from - -o new"):
+    for args in ("translate --table t", "translate --lines --farm t -", "date %DY --from - -o new",
+                 "translate --table t --index - t"):
         yield cannot(args, files={"t": ONE}, shell='exec "$@" <&-')
     yield accepted("eval --table t 1", b"1\n", files={"t": ONE}, shell='exec "$@" <&-')
     yield cannot("translate", shell='exec "$@" <.')

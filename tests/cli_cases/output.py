@@ -104,6 +104,7 @@ def of_names():
     """Where a file can be, and what else can have its name."""
     yield accepted("translate -o text text", makes={"text": b"A"}, files={"text": b"<65>"})
     yield accepted("table show -o t t", makes={"t": b"a string x\n"}, files={"t": ONE})
+    yield accepted("table index -o t t", makes={"t": b"\0\0"}, files={"t": ONE})
     yield accepted("table make t t", makes={"t": ONE}, files={"t": b"a string x\n"})
     yield accepted("translate -o ./new", makes={"new": b"Ash"}, given=b"Ash")
     yield accepted("translate -o 'a new one'", makes={"a new one": b"Ash"}, given=b"Ash")
@@ -114,6 +115,7 @@ def of_names():
     for name in (".", "..", "missing/new", "old/new"):
         yield cannot(f"translate -o {name}", name, given=b"Ash", files=OLD)
         yield cannot(f"convert hex1 5 -o {name}", name, files=OLD)
+        yield cannot(f"table index - -o {name}", name, given=ONE, files=OLD)
         yield cannot(f"table make {name}", name, given=b"a string x\n", files=OLD)
     yield cannot("table set . a string x", ".")
     yield cannot("table unset . a", ".")
@@ -171,6 +173,7 @@ def to_links(trial):
     trial.holds("translate -o nothing", 0, makes={"in/new": b"Ash"}, given=b"Ash")
     trial.holds("table set table b string y", 0, makes={"in/t": table(string(b"a", b"x"), string(b"b", b"y"))})
     trial.holds("table unset table a", 0, makes={"in/t": table(string(b"b", b"y"))})
+    trial.holds("table index table -o link", 0, makes={"in/old": b"\0\0"})
     trial.holds("table make table", 0, makes={"in/t": b""})
     trial.holds("translate -o folder", 3, says=[Something("folder")], given=b"Ash")
 
@@ -220,6 +223,7 @@ def of_closed_files():
     yield onto_closed_file("table make t", "t", b"a string x\n")
     yield onto_closed_file("table set t b string y", "t")
     yield onto_closed_file("table unset t a", "t")
+    yield onto_closed_file("table index old -o old", "old")
 
 
 def of_closed_folders():
@@ -227,6 +231,7 @@ def of_closed_folders():
         yield in_closed_folder(f"translate -o {name}", name, b"Ash")
         yield in_closed_folder(f"convert hex1 5 -o {name}", name)
         yield in_closed_folder(f"table make {name}", name, b"a string x\n")
+        yield in_closed_folder(f"table index old -o {name}", name)
     yield in_closed_folder("table set old b string y", "old")
     yield in_closed_folder("table unset old a", "old")
 

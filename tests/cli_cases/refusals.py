@@ -9,9 +9,11 @@ from .commands import ALL, WITH_OUTPUT
 from .header import LONG, TIME
 from .messages import ADVICE, IN_A_MACRO, NOT_IN_A_MACRO, NOTHING_WRITTEN, Shown, by_strict, no_room, refusal
 from .trial import Case, refused, words
-from .variables import FARM, HOUSE, MOST_RECORDS, filled, integer, macro, string, table, text
+from .variables import FARM, HOUSE, MOST_RECORDS, filled, index, integer, macro, string, table, text
 
 MEND_NAME = "the name is in neither table: mend it, or set it with `nos table set`"
+BUILD_ANEW = re.compile(r".*`nos table index`.*")
+GIVE_TABLE = re.compile(r".*--table\b.*")
 
 UNKNOWN_CALL = ["refused 14, Unknown call", ADVICE, NOTHING_WRITTEN]
 NOT_IN_TABLE = refusal(10, 0, "the table t")
@@ -19,7 +21,10 @@ NOT_IN_TABLE = refusal(10, 0, "the table t")
 # the function of the library whose refusals a command has, or can have
 FUNCTIONS = {"translate": "nos_translate", "eval": "nos_evaluate", "convert": "nos_convert", "read": "nos_read_unsigned",
              "date": "nos_convert_date", "table check": "nos_check_table", "table show": "nos_check_table",
-             "table set": "nos_check_table", "table make": "nos_check_table", "table unset": "nos_look_up"}
+             "table set": "nos_check_table", "table make": "nos_check_table", "table unset": "nos_look_up",
+             "table index": "nos_build_index"}
+# those of a function that a command cannot have: `unset` looks a name up without an index
+NEVER = {"table unset": {20}}
 
 
 class Refusal(NamedTuple):
@@ -70,11 +75,24 @@ def of_macros():
             yield text_is_refused(number, place, given, files=files, advice=IN_A_MACRO)
 
 
+def of_index():
+    """20, whatever the text is, for all but the index of the house table; where there is no table, for all but an empty index."""
+    own, says = index(*HOUSE), refusal(20, 0, "the index i", advice=BUILD_ANEW)
+    for data in (b"", own[:-1], own[:-2], own + b"\0", own + own, own[2:] + own[:2], own[::-1], index(*FARM), GOOD["house"],
+                 LONG, own.ljust(header.LONGEST + 1, b"\0")):
+        for options, given in (("", b"nothing named"), ("--allowance 0 --room 0", b"<Farm$Nmae> |5 <")):
+            yield Refusal("translate", 20, words(f"translate {BOTH} --index i {options}"), says, {**GOOD, "i": data}, given)
+    for options in ("", "--farm farm"):
+        yield Refusal("translate", 20, words(f"translate --index i {options}"), refusal(20, 0, "the index i", advice=GIVE_TABLE),
+                      {**GOOD, "i": own}, b"")
+
+
 def of_translate():
     yield Refusal("translate", 18, words("translate"), refusal(18, 0, "the text"), {}, LONG)
     yield Refusal("translate", 18, words(f"translate {BOTH}"), refusal(18, 0, "the text"), {"farm": LONG, "house": LONG}, LONG)
     yield Refusal("translate", 18, words("translate"), refusal(18, 0, "the text"), {}, b"short\n" + LONG)
     yield from of_tables("translate", [], b"nothing named")
+    yield from of_index()
     yield text_is_refused(9, 1, b"a<")
     yield text_is_refused(9, 2, b"ab<a")
     yield text_is_refused(4, 0, b"<4294967296>")
@@ -85,6 +103,10 @@ def of_translate():
     yield text_is_refused(7, 1, b"a|5")
     yield text_is_refused(7, 3, b"abc|!|!a")
     yield from of_macros()
+    indexed = {**SHORT, "i": index(string(b"a", b"y"), macro(b"m", b"<A>|"), integer(b"n", 7))}
+    yield text_is_refused(10, 3, b"<a><nmae>", f"{BOTH} --index i", indexed)
+    yield text_is_refused(7, 1, b"b<m>", f"{BOTH} --index i", indexed, IN_A_MACRO)
+    yield text_is_refused(12, 3, b"<n><a>", f"{BOTH} --index i --allowance 1", indexed)
     yield text_is_refused(8, 5, b'"b"  c')
     yield text_is_refused(8, 2, b'  "b')
     row = b"96 kg to <Farm$Nmae>"
@@ -154,8 +176,8 @@ def of_one_table(command, *rest):
                                 (table(*MANY) + b"V", 13, len(table(*MANY))),
                                 (b"VR\3\1\0a", 13, 0), (b"VR\1\1\3abcd", 13, 0), (b"VR\0\1\0\x22", 13, 0), (b"VR\0\0\0", 13, 0)):
         yield Refusal(command, number, [*words(f"{command} t"), *rest], refusal(number, place, "the table t"), {"t": data})
-        if command in ("table check", "table show"):
-            yield Refusal(command, number, words(f"{command} -"), refusal(number, place, "the table -"), {}, data)
+        if command in ("table check", "table show", "table index"):
+            yield Refusal(command, number, [*words(f"{command} -"), *rest], refusal(number, place, "the table -"), {}, data)
 
 
 def of_set():
@@ -200,9 +222,17 @@ def of_make():
     yield made(18, 0, text(*filled(header.LONGEST + 1)))
 
 
+def of_building():
+    yield from of_one_table("table index")
+    yield from of_one_table("table index", b"--room", b"0")
+    for some, need in ((FARM, 4), (SEVERAL[:1], 2), (MANY, 2 * MOST_RECORDS)):
+        for room in {0, 1, need - 1}:
+            yield Refusal("table index", 1, words(f"table index t --room {room}"), no_room(need, room), {"t": table(*some)})
+
+
 def every_refusal():
     for some in (of_translate(), of_eval(), of_convert(), of_read(), of_date(), of_one_table("table check"),
-                 of_one_table("table show"), of_set(), of_unset(), of_make()):
+                 of_one_table("table show"), of_set(), of_unset(), of_make(), of_building()):
         yield from some
 
 
@@ -237,7 +267,7 @@ def covered(trial):
     for one in every_refusal():
         seen[one.command].add(one.number)
     for command, function in FUNCTIONS.items():
-        trial.expect(f"numbers of {command}", set(header.REFUSES_BY[function]), seen[command] - {None})
+        trial.expect(f"numbers of {command}", set(header.REFUSES_BY[function]) - NEVER.get(command, set()), seen[command] - {None})
     trial.expect("commands", sorted(" ".join(name) for name in ALL), sorted(FUNCTIONS))
     numbers = set().union(*header.REFUSES_BY.values())
     trial.expect("every number but 0, accepted", set(range(1, len(header.WORDS))), numbers)

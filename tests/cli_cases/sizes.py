@@ -5,7 +5,7 @@ from .header import TIME
 from .messages import no_room, refusal
 from .refusals import MANY
 from .trial import accepted, refused
-from .variables import LONGEST_VALUE, MOST_RECORDS, filled, integer, string, table, text
+from .variables import LONGEST_VALUE, MOST_RECORDS, filled, index, integer, string, table, text
 
 MOST = header.LONGEST
 LOOK_UPS = header.MOST_LOOK_UPS
@@ -78,6 +78,22 @@ def of_tables():
         yield refused("table show -", refusal(18, 0, "the table -"), given=data)
 
 
+def of_indexes():
+    """The index of as many variables as there can be, of a table as long as it can be, and what is longer than any index."""
+    for some in ([string(b"n%d" % number, b"%d" % number) for number in range(MOST_RECORDS)], filled(MOST)):
+        data, own = table(*some), index(*some)
+        yield accepted("table index t", own, files={"t": data})
+        yield accepted(f"table index t --room {len(own)} -o out", makes={"out": own}, files={"t": data})
+        yield refused(f"table index t --room {len(own) - 1}", no_room(len(own), len(own) - 1), files={"t": data})
+        for one in (some[0], some[len(some) // 2], some[-1]):
+            yield accepted("translate --table t --index i", one.value, given=b"<%s>" % one.name, files={"t": data, "i": own})
+        for length in (len(own) + 1, MOST - 1, MOST, MOST + 1, MOST + 2, 3000000):
+            yield refused("translate --table t --index i", refusal(20, 0, "the index i"),
+                          files={"t": data, "i": own.ljust(length, b"\0")})
+    yield refused("table index t", refusal(13, len(table(*MANY)), "the table t"), files={"t": table(*MANY, string(b"new"))})
+    yield refused("table index t", refusal(18, 0, "the table t"), files={"t": table(*filled(MOST + 1))})
+
+
 def of_arguments():
     yield accepted(["date", b"x" * MOST, TIME], b"x" * MOST + b"\n")
     yield refused(["date", b"x" * (MOST + 1), TIME], refusal(18, 0, "the format"))
@@ -98,5 +114,5 @@ def of_times():
 
 
 def cases():
-    for some in (of_texts, of_lines, of_largest_answer, of_look_ups, of_tables, of_arguments, of_times):
+    for some in (of_texts, of_lines, of_largest_answer, of_look_ups, of_tables, of_indexes, of_arguments, of_times):
         yield from some()

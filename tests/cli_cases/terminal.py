@@ -40,3 +40,4 @@ def cases():
     yield typed("table make t -", b"a string x" + CTRL_D, makes={"t": ONE})
     yield typed("table check -", b"", b"good: 0 variables, 0 bytes\n")
     yield typed("table show -", b"", b"")
+    yield typed("table index -", b"", b"")

@@ -6,7 +6,7 @@ from .trial import accepted, refused, wrong_usage
 from .variables import ONE
 
 EVERY_OPTION = sorted({option for synopsis in ALL.values() for option in (*synopsis.valued, *synopsis.flags)})
-A_VALUE = {"--table": "t", "--farm": "t", "--from": "t", "-o": "out"}
+A_VALUE = {"--table": "t", "--farm": "t", "--index": "t", "--from": "t", "-o": "out"}
 
 
 def given_to(synopsis):
@@ -92,7 +92,10 @@ def of_values_of_options():
     for args in ("translate -o --lines", "translate --table --lines", "translate --table -- t", "eval 1 -o --",
                  "date %DY --from --lines", "translate -o -", "convert hex1 5 -o -", "table show t -o -", "table make -",
                  "table set - a string x", "table unset - a", "translate --table - -", "translate --table -",
-                 "translate --farm - --table - t", "eval --farm=- --table=- 1"):
+                 "translate --farm - --table - t", "eval --farm=- --table=- 1", "table index t -o -", "table index t -o --room",
+                 "translate --index --lines", "translate --index -- t", "translate --index -", "translate --index - -",
+                 "translate --index=- --table=- t", "translate --index - --farm - t", "translate --table - --farm - --index - t",
+                 "translate --table t --index t --index t t"):
         yield wrong_usage(args, files=files)
 
 

@@ -1,4 +1,5 @@
-"""Tables of variables as the header and docs/NOS.md have them: as bytes, and as text. This is the tests' own model of them."""
+"""Tables of variables as the header and docs/NOS.md have them: as bytes, with their index, and as text. This is the tests' own model
+of them."""
 
 from typing import NamedTuple
 
@@ -39,6 +40,13 @@ def integer(name, number):
 def table(*variables):
     """The bytes of a table."""
     return b"".join(variable.record() for variable in variables)
+
+
+def index(*variables):
+    """The index of a table: the places of the records, two bytes each with the lower first, sorted by name."""
+    places = [len(table(*variables[:number])) for number in range(len(variables))]
+    by_name = sorted(zip(variables, places), key=lambda one: one[0].name.lower())
+    return b"".join(place.to_bytes(2, "little") for _, place in by_name)
 
 
 def text(*variables):
