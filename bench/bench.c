@@ -1,6 +1,6 @@
-/* Times the proved library against the same work in plain C and against calls of the C library, in one run. Before that every answer
- * and every byte written is compared. It writes two tables, and behind them lines for bench/plot. Compiled with WITH_BEFORE it has the
- * library of another commit among the sides. */
+/* Times the proved library against the same work in plain C and against calls of the C library, and through an index against itself
+ * without one, in one run. Before that every answer and every byte written is compared. It writes two tables, and behind them lines for
+ * bench/plot. Compiled with WITH_BEFORE it has the library of another commit among the sides, where that can do a work. */
 #define _POSIX_C_SOURCE 200809L
 #include "inputs.h"
 
@@ -12,30 +12,18 @@
 enum { REPEATS = 15 };
 static const double least = 20e6; /* nanoseconds of one sample */
 
-static const struct calls proved = {
-    "proved", nos_convert, nos_read_unsigned, nos_check_table, nos_look_up, nos_translate, nos_evaluate,
+const struct calls proved = {
+    "proved", nos_convert, nos_read_unsigned, nos_check_table, nos_build_index, nos_look_up, nos_translate, nos_evaluate,
     nos_convert_date,
 };
 #ifdef WITH_BEFORE
-/* bench/run gives that library's functions these names. */
-extern __typeof__(nos_convert) before_nos_convert;
-extern __typeof__(nos_read_unsigned) before_nos_read_unsigned;
-extern __typeof__(nos_check_table) before_nos_check_table;
-extern __typeof__(nos_look_up) before_nos_look_up;
-extern __typeof__(nos_translate) before_nos_translate;
-extern __typeof__(nos_evaluate) before_nos_evaluate;
-extern __typeof__(nos_convert_date) before_nos_convert_date;
-static const struct calls before = {
-    "before", before_nos_convert, before_nos_read_unsigned, before_nos_check_table, before_nos_look_up, before_nos_translate,
-    before_nos_evaluate, before_nos_convert_date,
-};
 static const struct calls *const sets[] = {&proved, &plain_by_clang, &plain_by_gcc, &before};
 
 /* Up to 1.3.0 the library had a zero byte behind the digits of &28: a digit did not fit one byte. */
 static void choose_decimal_call(void)
 {
     uint8_t digit;
-    if (before_nos_convert(NOS_DECIMAL, 7, &digit, 1).number == NOS_ACCEPTED) return;
+    if (before.convert(NOS_DECIMAL, 7, &digit, 1).number == NOS_ACCEPTED) return;
     decimal_call = NOS_SIGNED_4;
     fprintf(stderr, "bench: the library before has a zero byte behind the digits of &28: &DC is compared and timed in its place\n");
 }
@@ -73,9 +61,10 @@ static double sample(const struct work *w, size_t side, struct input *in, unsign
     return now() - start;
 }
 
-static size_t sides_of(const struct work *w)
+/* Whether a side can do a work over an input: not where there is no rival, nor through an index where the side has none. */
+static int has_side(const struct work *w, const struct input *in, size_t side)
 {
-    return w->run_rival ? SIDES : SETS;
+    return side == RIVAL ? w->run_rival != NULL : !in->indexed || sets[side]->build_index != NULL;
 }
 
 /* Every side's answer and the bytes that it wrote are those of the proved library. */
@@ -85,7 +74,8 @@ static void check(const struct work *w, struct input *in)
     memset(in->out, 0xEE, ROOM);
     uint64_t first = run_side(w, PROVED, in);
     memcpy(wanted, in->out, ROOM);
-    for (size_t side = 1; side < sides_of(w); side++) {
+    for (size_t side = 1; side < SIDES; side++) {
+        if (!has_side(w, in, side)) continue;
         memset(in->out, 0xEE, ROOM);
         uint64_t other = run_side(w, side, in);
         if (first == other && memcmp(wanted, in->out, ROOM) == 0) continue;
@@ -103,23 +93,25 @@ static void measure(const struct work *w, struct times *t)
 {
     unsigned long passes[2][SIDES];
     for (size_t scale = 0; scale < 2; scale++) {
-        for (size_t side = 0; side < sides_of(w); side++) {
+        for (size_t side = 0; side < SIDES; side++) {
+            if (!has_side(w, &inputs[scale], side)) continue;
             passes[scale][side] = 1;
             while (sample(w, side, &inputs[scale], passes[scale][side]) < least) passes[scale][side] *= 2;
         }
     }
     for (size_t repeat = 0; repeat < REPEATS; repeat++)
         for (size_t scale = 0; scale < 2; scale++)
-            for (size_t side = 0; side < sides_of(w); side++) {
+            for (size_t side = 0; side < SIDES; side++) {
+                if (!has_side(w, &inputs[scale], side)) continue;
                 unsigned long n = passes[scale][side];
                 t->of[scale][side][repeat] = sample(w, side, &inputs[scale], n) / (double)n;
             }
 }
 
-/* Whether a work was timed in this run. */
-static int is_timed(size_t i)
+/* Whether a work was timed in this run, of a side. */
+static int is_timed(size_t i, size_t side)
 {
-    return times[i].of[1][PROVED][0] > 0;
+    return times[i].of[1][side][0] > 0;
 }
 
 static int by_size(const void *a, const void *b)
@@ -148,31 +140,28 @@ static struct spread spread_of(const double *samples)
     return quotients(samples, ones);
 }
 
-static void print_ratio(const struct times *t, size_t side)
+/* A cell with the quotients of two rows of samples of one work and side, empty where that was not timed; the rival's has its name. */
+static void print_cell(size_t i, size_t side, const double *over, const double *under)
 {
-    struct spread s = quotients(t->of[1][PROVED], t->of[1][side]);
-    printf(" %.2f (%.2f to %.2f) |", s.median, s.least, s.most);
+    if (is_timed(i, side)) {
+        struct spread s = quotients(over, under);
+        if (side == RIVAL) printf(" %s:", works[i].rival);
+        printf(" %.2f (%.2f to %.2f)", s.median, s.least, s.most);
+    }
+    printf(" |");
 }
 
 /* How the proved library's time stands to each other side's, at the larger scale. */
 static void print_ratios(void)
 {
     int has_before = SETS > BEFORE;
-    printf("| work | proved, µs: median (least) | of plain C, clang | of plain C, gcc |%s of a call of C's |\n|---|---|---|---|%s---|\n",
-           has_before ? " of the library before |" : "", has_before ? "---|" : "");
+    printf("| work | proved, µs: median (least) | of plain C, clang | of plain C, gcc |%s of a call of C's, or without an index |\n"
+           "|---|---|---|---|%s---|\n", has_before ? " of the library before |" : "", has_before ? "---|" : "");
     for (size_t i = 0; i < work_count; i++) {
-        if (!is_timed(i)) continue;
+        if (!is_timed(i, PROVED)) continue;
         struct spread s = spread_of(times[i].of[1][PROVED]);
         printf("| %s | %.2f (%.2f) |", works[i].name, s.median / 1000, s.least / 1000);
-        print_ratio(times + i, CLANG);
-        print_ratio(times + i, GCC);
-        if (has_before) print_ratio(times + i, BEFORE);
-        if (works[i].rival) {
-            printf(" %s:", works[i].rival);
-            print_ratio(times + i, RIVAL);
-        } else {
-            printf(" |");
-        }
+        for (size_t side = CLANG; side < SIDES; side++) print_cell(i, side, times[i].of[1][PROVED], times[i].of[1][side]);
         printf("\n");
     }
 }
@@ -180,14 +169,13 @@ static void print_ratios(void)
 /* How each side's time grows from the smaller scale to the larger. */
 static void print_growth(void)
 {
-    printf("\n| work | doubled | proved | plain C, clang | plain C, gcc |\n|---|---|---|---|---|\n");
+    printf("\n| work | doubled, or as it says | proved | plain C, clang | plain C, gcc | a call of C's, or without an index |\n"
+           "|---|---|---|---|---|---|\n");
     for (size_t i = 0; i < work_count; i++) {
-        if (!is_timed(i)) continue;
-        printf("| %s | %s |", works[i].name, works[i].doubled);
-        for (size_t side = PROVED; side <= GCC; side++) {
-            struct spread s = quotients(times[i].of[1][side], times[i].of[0][side]);
-            printf(" %.2f (%.2f to %.2f) |", s.median, s.least, s.most);
-        }
+        if (!is_timed(i, PROVED)) continue;
+        printf("| %s | %s |", works[i].name, works[i].grown);
+        for (size_t side = PROVED; side < SIDES; side++)
+            if (side <= GCC || side == RIVAL) print_cell(i, side, times[i].of[1][side], times[i].of[0][side]);
         printf("\n");
     }
 }
@@ -198,7 +186,8 @@ static void print_lines(void)
     static const char *const names[] = {"proved", "plain-clang", "plain-gcc", "before"};
     printf("\n");
     for (size_t i = 0; i < work_count; i++) {
-        for (size_t side = 0; is_timed(i) && side < sides_of(&works[i]); side++) {
+        for (size_t side = 0; side < SIDES; side++) {
+            if (!is_timed(i, side)) continue;
             struct spread t = spread_of(times[i].of[1][side]), g = quotients(times[i].of[1][side], times[i].of[0][side]);
             struct spread r = quotients(times[i].of[1][PROVED], times[i].of[1][side]);
             const char *name = side == RIVAL ? works[i].rival : names[side];

@@ -10,15 +10,21 @@ struct calls {
     struct nos_answer (*convert)(uint32_t call, uint32_t value, uint8_t *buf, size_t room);
     struct nos_number (*read_unsigned)(const uint8_t *text, size_t length, uint32_t whole, uint32_t limit);
     struct nos_checked (*check_table)(const uint8_t *table, size_t length);
+    struct nos_answer (*build_index)(const uint8_t *table, size_t length, uint8_t *out, size_t room); /* NULL: the set has no index */
     struct nos_variable (*look_up)(const uint8_t *name, size_t name_length, const uint8_t *farm, size_t farm_length,
-                                   const uint8_t *house, size_t house_length);
+                                   const uint8_t *house, size_t house_length, const uint8_t *index, size_t index_length,
+                                   uint32_t indexed);
     struct nos_answer (*translate)(const uint8_t *text, size_t length, const uint8_t *farm, size_t farm_length, const uint8_t *house,
-                                   size_t house_length, uint32_t flags, uint32_t allowance, uint8_t *out, size_t room);
+                                   size_t house_length, const uint8_t *index, size_t index_length, uint32_t indexed, uint32_t flags,
+                                   uint32_t allowance, uint8_t *out, size_t room);
     struct nos_value (*evaluate)(const uint8_t *text, size_t length, const uint8_t *farm, size_t farm_length, const uint8_t *house,
                                  size_t house_length, uint32_t allowance);
     struct nos_answer (*convert_date)(const uint8_t *time, size_t time_length, const uint8_t *format, size_t format_length,
                                       uint8_t *buf, size_t room);
 };
+
+/* The library itself, and with WITH_BEFORE that of another commit. */
+extern const struct calls proved, before;
 
 /* plain.c compiled by the compiler that the library's code came from, and by the system's own. */
 extern const struct calls plain_by_clang, plain_by_gcc;

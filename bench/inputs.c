@@ -164,6 +164,9 @@ static size_t alike_name(char name[33], size_t number)
     return (size_t)snprintf(name, 33, "Certified$Fields$Diary$Entry%03u", (unsigned)number % 1000);
 }
 
+/* The same in falling order. */
+static size_t falling_name(char name[33], size_t number) { return alike_name(name, 999 - number); }
+
 /* Names of one length, with letters by chance: those of a number are always the same. */
 static size_t level_name(char name[33], size_t number)
 {
@@ -255,7 +258,7 @@ static uint64_t run_look_up(const struct calls *c, struct input *in)
     uint64_t sum = 0;
     for (size_t i = 0; i < in->count; i++) {
         const struct item *item = in->items + i;
-        sum = sum * 31 + sum_of_variable(c->look_up(in->text + item->start, item->length, NOS_TABLES(*in)), item->wanted);
+        sum = sum * 31 + sum_of_variable(c->look_up(in->text + item->start, item->length, NOS_INDEXED(*in)), item->wanted);
     }
     return sum;
 }
@@ -270,40 +273,90 @@ static void add_name(struct input *in, const char *name, uint32_t wanted)
 }
 
 /* Names that the house table has, or others of the same kind, which have the numbers after those of a full table. */
-static void make_house_look_ups(struct input *in, unsigned scale, size_t (*naming)(char *, size_t), uint32_t wanted)
+static void make_house_look_ups(struct input *in, size_t count, size_t (*naming)(char *, size_t), uint32_t wanted)
 {
     char name[33];
-    make_house(in, scale * 128, 4, naming);
+    make_house(in, count, 4, naming);
     while (in->count < NAMES) {
-        naming(name, chance(scale * 128) + (wanted == NOS_ACCEPTED ? 0 : 256));
+        naming(name, chance((uint32_t)count) + (wanted == NOS_ACCEPTED ? 0 : 256));
         add_name(in, name, wanted);
     }
 }
 
-static void make_look_ups(struct input *in, unsigned scale) { make_house_look_ups(in, scale, name_of, NOS_ACCEPTED); }
-static void make_misses(struct input *in, unsigned scale) { make_house_look_ups(in, scale, name_of, NOS_UNKNOWN_NAME); }
-static void make_level_look_ups(struct input *in, unsigned scale) { make_house_look_ups(in, scale, level_name, NOS_ACCEPTED); }
-static void make_level_misses(struct input *in, unsigned scale) { make_house_look_ups(in, scale, level_name, NOS_UNKNOWN_NAME); }
-static void make_alike_look_ups(struct input *in, unsigned scale) { make_house_look_ups(in, scale, alike_name, NOS_ACCEPTED); }
-static void make_alike_misses(struct input *in, unsigned scale) { make_house_look_ups(in, scale, alike_name, NOS_UNKNOWN_NAME); }
+static void make_look_ups(struct input *in, unsigned scale) { make_house_look_ups(in, scale * 128, name_of, NOS_ACCEPTED); }
+static void make_misses(struct input *in, unsigned scale) { make_house_look_ups(in, scale * 128, name_of, NOS_UNKNOWN_NAME); }
+static void make_level_look_ups(struct input *in, unsigned scale) { make_house_look_ups(in, scale * 128, level_name, NOS_ACCEPTED); }
+static void make_level_misses(struct input *in, unsigned scale) { make_house_look_ups(in, scale * 128, level_name, NOS_UNKNOWN_NAME); }
+static void make_alike_look_ups(struct input *in, unsigned scale) { make_house_look_ups(in, scale * 128, alike_name, NOS_ACCEPTED); }
+static void make_alike_misses(struct input *in, unsigned scale) { make_house_look_ups(in, scale * 128, alike_name, NOS_UNKNOWN_NAME); }
 
-static void make_look_ups_in_both(struct input *in, unsigned scale)
+static void add_names_of_both(struct input *in, size_t count)
 {
     char name[33];
-    make_both(in, scale * 128, 4);
+    make_both(in, count, 4);
     while (in->count < NAMES) {
         enum standing standing = chance(4);
-        name_standing(name, standing, scale * 128);
+        name_standing(name, standing, count);
         add_name(in, name, standing == NEITHER ? NOS_UNKNOWN_NAME : NOS_ACCEPTED);
     }
 }
+
+static void make_look_ups_in_both(struct input *in, unsigned scale) { add_names_of_both(in, scale * 128); }
+
+/* ---- An index beside the house table, of a quarter of a full table's records and of all. */
+
+static size_t quarter_or_all(unsigned scale) { return scale == 1 ? 64 : 256; }
+
+static uint64_t run_build(const struct calls *c, struct input *in)
+{
+    return sum_of_answer(c->build_index(in->house, in->house_length, in->out, sizeof in->out));
+}
+
+static void add_index(struct input *in)
+{
+    in->index_length = nos_build_index(in->house, in->house_length, in->index, sizeof in->index).need;
+    in->indexed = 1;
+}
+
+static void make_indexed(struct input *in, unsigned scale, size_t (*naming)(char *, size_t), uint32_t wanted)
+{
+    make_house_look_ups(in, quarter_or_all(scale), naming, wanted);
+    add_index(in);
+}
+
+static void make_indexed_names(struct input *in, unsigned scale) { make_indexed(in, scale, name_of, NOS_ACCEPTED); }
+static void make_indexed_misses(struct input *in, unsigned scale) { make_indexed(in, scale, name_of, NOS_UNKNOWN_NAME); }
+static void make_indexed_level_names(struct input *in, unsigned scale) { make_indexed(in, scale, level_name, NOS_ACCEPTED); }
+static void make_indexed_level_misses(struct input *in, unsigned scale) { make_indexed(in, scale, level_name, NOS_UNKNOWN_NAME); }
+static void make_indexed_alike_names(struct input *in, unsigned scale) { make_indexed(in, scale, alike_name, NOS_ACCEPTED); }
+static void make_indexed_alike_misses(struct input *in, unsigned scale) { make_indexed(in, scale, alike_name, NOS_UNKNOWN_NAME); }
+static void make_indexed_falling_names(struct input *in, unsigned scale) { make_indexed(in, scale, falling_name, NOS_ACCEPTED); }
+
+static void make_indexed_names_in_both(struct input *in, unsigned scale)
+{
+    add_names_of_both(in, quarter_or_all(scale));
+    add_index(in);
+}
+
+/* The library's own answers without the index that it was given. */
+static uint64_t without_index(struct input *in, uint64_t (*run)(const struct calls *c, struct input *in))
+{
+    in->indexed = 0;
+    uint64_t sum = run(&proved, in);
+    in->indexed = 1;
+    return sum;
+}
+
+static uint64_t look_up_without(struct input *in) { return without_index(in, run_look_up); }
 
 /* ---- Texts. */
 
 static uint64_t run_translate(const struct calls *c, struct input *in)
 {
-    return sum_of_answer(c->translate(in->text, in->length, NOS_TABLES(*in), 0, 1024, in->out, sizeof in->out));
+    return sum_of_answer(c->translate(in->text, in->length, NOS_INDEXED(*in), 0, 1024, in->out, sizeof in->out));
 }
+
+static uint64_t translate_without(struct input *in) { return without_index(in, run_translate); }
 
 static void make_plain(struct input *in, unsigned scale)
 {
@@ -349,6 +402,25 @@ static void make_references_to_both(struct input *in, unsigned scale)
 {
     make_both(in, 256, 4);
     add_references(in, scale, known_name);
+}
+
+static void make_indexed_references(struct input *in, unsigned scale)
+{
+    make_references(in, scale);
+    add_index(in);
+}
+
+/* A row of a diary. Both names stand among the 64 records from number 96 on, too. */
+static void make_short_text(struct input *in, unsigned scale)
+{
+    add_records(in, NOS_IN_THE_HOUSE, scale == 1 ? 96 : 0, quarter_or_all(scale), 4, name_of);
+    add(in, "Sprayed <Spray$Date> on <Field$Crop>");
+}
+
+static void make_indexed_short_text(struct input *in, unsigned scale)
+{
+    make_short_text(in, scale);
+    add_index(in);
 }
 
 /* Macros named m0 to m15, each of which names the one before it so many times. */
@@ -582,6 +654,8 @@ static void make_short_rooms(struct input *in, unsigned scale)
 
 #define BYTES "the text's bytes"
 #define BOTH_CALLS "gmtime_r and strftime"
+#define FOURFOLD "the records, 4 times"
+#define WITHOUT "without an index"
 const struct work works[] = {
     {"convert, all 26 calls, mixed values", "the conversions", make_all_calls, run_convert, NULL, NULL},
     {"convert, decimal and hex calls", "the conversions", make_printed_calls, run_convert, "snprintf", by_snprintf},
@@ -594,6 +668,11 @@ const struct work works[] = {
      NULL, NULL},
     {"translate, references to names alike in length", BYTES " and references", make_level_references, run_translate, NULL, NULL},
     {"translate, references to names alike up to their end", BYTES " and references", make_alike_references, run_translate, NULL, NULL},
+    {"translate, a short text with two references", FOURFOLD, make_short_text, run_translate, NULL, NULL},
+    {"translate through an index, a short text with two references", FOURFOLD, make_indexed_short_text, run_translate, WITHOUT,
+     translate_without},
+    {"translate through an index, a reference every 40 bytes", BYTES " and references", make_indexed_references, run_translate, WITHOUT,
+     translate_without},
     {"translate, macros 16 deep", BYTES " and references", make_deep_macros, run_translate, NULL, NULL},
     {"translate, macros of two macros", BYTES " and references", make_wide_macros, run_translate, NULL, NULL},
     {"translate, a code every 4 bytes", BYTES, make_codes_4, run_translate, NULL, NULL},
@@ -611,6 +690,21 @@ const struct work works[] = {
     {"look_up, names alike up to their end", "the records", make_alike_look_ups, run_look_up, NULL, NULL},
     {"look_up, unknown names alike up to their end", "the records", make_alike_misses, run_look_up, NULL, NULL},
     {"look_up, over a full farm's and house table", "the records", make_look_ups_in_both, run_look_up, NULL, NULL},
+    {"build_index, 256 records", FOURFOLD, make_indexed_names, run_build, "a hash and qsort", by_qsort},
+    {"build_index, 256 names alike in length", FOURFOLD, make_indexed_level_names, run_build, "a hash and qsort", by_qsort},
+    {"build_index, 256 names alike up to their end", FOURFOLD, make_indexed_alike_names, run_build, "a hash and qsort", by_qsort},
+    {"build_index, 256 names in falling order", FOURFOLD, make_indexed_falling_names, run_build, "a hash and qsort", by_qsort},
+    {"look_up through an index, names of a full house table", FOURFOLD, make_indexed_names, run_look_up, WITHOUT, look_up_without},
+    {"look_up through an index, unknown names", FOURFOLD, make_indexed_misses, run_look_up, WITHOUT, look_up_without},
+    {"look_up through an index, names alike in length", FOURFOLD, make_indexed_level_names, run_look_up, WITHOUT, look_up_without},
+    {"look_up through an index, unknown names alike in length", FOURFOLD, make_indexed_level_misses, run_look_up, WITHOUT,
+     look_up_without},
+    {"look_up through an index, names alike up to their end", FOURFOLD, make_indexed_alike_names, run_look_up, WITHOUT,
+     look_up_without},
+    {"look_up through an index, unknown names alike up to their end", FOURFOLD, make_indexed_alike_misses, run_look_up, WITHOUT,
+     look_up_without},
+    {"look_up through an index, over a full farm's and house table", FOURFOLD, make_indexed_names_in_both, run_look_up, WITHOUT,
+     look_up_without},
     {"evaluate, a long sum", BYTES, make_sums, run_evaluate, NULL, NULL},
     {"evaluate, brackets 16 deep", BYTES, make_brackets, run_evaluate, NULL, NULL},
     {"evaluate, all operators", BYTES, make_mixture, run_evaluate, NULL, NULL},

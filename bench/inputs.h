@@ -6,7 +6,7 @@
 
 #include <time.h>
 
-enum { MOST_ITEMS = 1024, SLOT = 40, ROOM = 400000, TIME_LENGTH = 5 };
+enum { MOST_ITEMS = 1024, SLOT = 40, ROOM = 400000, TIME_LENGTH = 5, LONGEST_INDEX = 2 * 256 };
 
 /* A conversion, or a number or a name that stands in the text; `wanted` is the number that the name's look-up answers with. */
 struct item {
@@ -26,20 +26,21 @@ struct dates {
     uint32_t wanted;             /* the number that each answer has */
 };
 
-/* The tables are named as in struct nos_tables, so that NOS_TABLES takes an input too. */
+/* The tables and the index are named as in struct nos_tables, so that NOS_TABLES and NOS_INDEXED take an input too. */
 struct input {
-    uint8_t text[65536], house[65536], farm[65536], out[ROOM];
-    size_t length, house_length, farm_length, count;
+    uint8_t text[65536], house[65536], farm[65536], index[LONGEST_INDEX], out[ROOM];
+    size_t length, house_length, farm_length, index_length, count;
+    uint32_t indexed; /* the work goes through an index, or builds one */
     struct item items[MOST_ITEMS];
     struct dates dates;
 };
 
-/* One piece of work. It is made at two scales, 1 and 2: `doubled` tells what the second has twice of. */
+/* One piece of work. It is made at two scales, 1 and 2: `grown` tells what the second has twice of, or how many times. */
 struct work {
-    const char *name, *doubled;
+    const char *name, *grown;
     void (*make)(struct input *in, unsigned scale);
     uint64_t (*run)(const struct calls *c, struct input *in);
-    const char *rival; /* what a C programmer would call, or NULL */
+    const char *rival; /* what a C programmer would call, or the library's other way to the same answers; or NULL */
     uint64_t (*run_rival)(struct input *in);
 };
 
@@ -59,6 +60,7 @@ uint64_t by_snprintf(struct input *in);
 uint64_t by_strtoul(struct input *in);
 uint64_t by_memcpy(struct input *in);
 uint64_t by_hash(struct input *in);
+uint64_t by_qsort(struct input *in);
 uint64_t by_gmtime_and_strftime(struct input *in);
 uint64_t by_strftime_alone(struct input *in);
 

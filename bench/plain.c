@@ -157,8 +157,8 @@ static struct nos_number read_unsigned(const uint8_t *text, size_t length, uint3
     return (struct nos_number){.value = (uint32_t)value, .place = at};
 }
 
-/* ---- Variables. The check leaves an index of the records behind, which look-ups use: the farm's come first, so that the first record
- * with an equal name is the one that is meant. */
+/* ---- Variables. The check leaves a list of the records behind, which look-ups use: the farm's come first, so that the first record
+ * with an equal name is the one that is meant. Of a house table with its index no record is in the list. */
 
 struct record {
     const uint8_t *name, *value;
@@ -167,6 +167,9 @@ struct record {
 
 struct variables {
     size_t farms, count; /* how many records are the farm's, and how many there are */
+    bool indexed;        /* the house's are looked up through its index */
+    const uint8_t *house, *index;
+    size_t places; /* of the index */
     struct record records[2 * MOST_RECORDS];
 };
 
@@ -192,16 +195,16 @@ static const struct record *find_in(const struct record *records, size_t count, 
     return NULL;
 }
 
-static const struct record *find(const struct variables *all, const uint8_t *name, size_t length)
+static struct record record_at(const uint8_t *at)
 {
-    return find_in(all->records, all->count, name, length);
+    return (struct record){.name = at + 5, .value = at + 5 + at[3], .kind = at[2], .name_length = at[3], .value_length = at[4]};
 }
 
 /* Reads the record at a place into *r, and gives its length, or 0 where it has not a record's shape. */
 static size_t read_record(const uint8_t *at, size_t length, struct record *r)
 {
     if (length < 5 || at[0] != 86 || at[1] != 82 || at[2] > NOS_MACRO) return 0;
-    *r = (struct record){.name = at + 5, .value = at + 5 + at[3], .kind = at[2], .name_length = at[3], .value_length = at[4]};
+    *r = record_at(at);
     size_t all = (size_t)5 + r->name_length + r->value_length;
     if (r->name_length < 1 || r->name_length > 32 || all > length) return 0;
     if (r->kind == NOS_INTEGER && r->value_length != 4) return 0;
@@ -231,35 +234,155 @@ static struct nos_checked check_table(const uint8_t *table, size_t length)
     return read_table(records, table, length);
 }
 
-/* What is wrong with the length of a text or with its tables; the number is 0 where nothing is. */
+/* ---- The index of a table: the places of its records, sorted by name. */
+
+/* Under 0, 0 or over 0: the name of a record stands before another name, is equal to it, or stands behind it. */
+static int order(const uint8_t *record, const uint8_t *name, size_t length)
+{
+    size_t own = record[3], shorter = own < length ? own : length;
+    for (size_t i = 0; i < shorter; i++) {
+        uint8_t a = record[5 + i], b = name[i];
+        if (a == b) continue;
+        int difference = small(a) - small(b);
+        if (difference) return difference;
+    }
+    return (own > length) - (own < length);
+}
+
+static size_t place_at(const uint8_t *index, size_t i)
+{
+    return index[2 * i] | (size_t)index[2 * i + 1] << 8;
+}
+
+/* Whether a name is among the first places of an index; *at is where, or where it belongs. */
+static bool search(const uint8_t *table, const uint8_t *index, size_t count, const uint8_t *name, size_t length, size_t *at)
+{
+    size_t low = 0, high = count;
+    while (low < high) {
+        size_t middle = (low + high) / 2;
+        int o = order(table + place_at(index, middle), name, length);
+        if (o == 0) {
+            *at = middle;
+            return true;
+        }
+        if (o < 0) low = middle + 1;
+        else high = middle;
+    }
+    *at = low;
+    return false;
+}
+
+static struct nos_answer refused_table(unsigned number, size_t place, size_t room)
+{
+    return (struct nos_answer){.number = number, .counted = NOS_IN_THE_HOUSE, .place = place, .free = room};
+}
+
+/* Each record is put in its place among those before it, so that of two equal names the later one is seen. */
+static struct nos_answer build_index(const uint8_t *table, size_t length, uint8_t *out, size_t room)
+{
+    uint8_t index[2 * MOST_RECORDS];
+    size_t count = 0, gap;
+    if (length > NOS_LONGEST) return refused_table(NOS_OVER_LENGTH, 0, room);
+    for (size_t at = 0; at < length; count++) {
+        struct record r;
+        size_t size = count < MOST_RECORDS ? read_record(table + at, length - at, &r) : 0;
+        if (size == 0 || search(table, index, count, r.name, r.name_length, &gap)) return refused_table(NOS_BAD_TABLE, at, room);
+        uint8_t *to = index + 2 * gap;
+        memmove(to + 2, to, 2 * (count - gap));
+        to[0] = (uint8_t)at;
+        to[1] = (uint8_t)(at >> 8);
+        at += size;
+    }
+    if (room < 2 * count) return refused_conversion(NOS_NO_ROOM, 2 * count, room);
+    if (count) memcpy(out, index, 2 * count);
+    return (struct nos_answer){.need = 2 * count, .free = room - 2 * count};
+}
+
+/* Marks the place of each record, and gives whether all have a record's shape and are as many as the index has places. */
+static bool mark_records(uint8_t *marks, const uint8_t *table, size_t length, size_t places)
+{
+    size_t count = 0;
+    memset(marks, 0, length / 8 + 1);
+    for (size_t at = 0; at < length; count++) {
+        struct record r;
+        size_t size = count < places ? read_record(table + at, length - at, &r) : 0;
+        if (size == 0) return false;
+        marks[at / 8] |= (uint8_t)(1u << at % 8);
+        at += size;
+    }
+    return count == places;
+}
+
+/* Whether the index is that of the house table, and the table good: then every name along the index stands before the next, so that none
+ * is there twice and no record is left out. */
+static bool index_fits(const struct nos_tables *lent)
+{
+    uint8_t marks[NOS_LONGEST / 8 + 1];
+    size_t places = lent->index_length / 2;
+    const uint8_t *last = NULL;
+    if (lent->index_length % 2 || places > MOST_RECORDS) return false;
+    if (!mark_records(marks, lent->house, lent->house_length, places)) return false;
+    for (size_t i = 0; i < places; i++) {
+        size_t place = place_at(lent->index, i);
+        if (place >= lent->house_length || !(marks[place / 8] >> place % 8 & 1)) return false;
+        const uint8_t *record = lent->house + place;
+        if (last && order(last, record + 5, record[3]) >= 0) return false;
+        last = record;
+    }
+    return true;
+}
+
+/* The record that is meant by a name, or NULL. One that is found through the index is read into *r. */
+static const struct record *find(const struct variables *all, const uint8_t *name, size_t length, struct record *r)
+{
+    const struct record *listed = find_in(all->records, all->count, name, length);
+    size_t at;
+    if (listed || !all->indexed || !search(all->house, all->index, all->places, name, length, &at)) return listed;
+    *r = record_at(all->house + place_at(all->index, at));
+    return r;
+}
+
+/* ---- Both tables. */
+
+/* What is wrong with the length of a text, its tables or their index; the number is 0 where nothing is. */
 struct judged {
     uint32_t number, counted;
     size_t place;
 };
 
-static struct judged index_both(struct variables *all, size_t text_length, struct nos_tables lent)
+/* Where the index does not fit, the house table is read as without one: if that is bad, it comes first. */
+static struct judged read_both(struct variables *all, size_t text_length, struct nos_tables lent)
 {
     if (text_length > NOS_LONGEST) return (struct judged){NOS_OVER_LENGTH, NOS_IN_THE_TEXT, 0};
     if (lent.farm_length > NOS_LONGEST) return (struct judged){NOS_OVER_LENGTH, NOS_IN_THE_FARM, 0};
     if (lent.house_length > NOS_LONGEST) return (struct judged){NOS_OVER_LENGTH, NOS_IN_THE_HOUSE, 0};
     struct nos_checked farm = read_table(all->records, lent.farm, lent.farm_length);
     if (farm.number) return (struct judged){farm.number, NOS_IN_THE_FARM, farm.place};
+    all->farms = all->count = farm.records;
+    all->indexed = lent.indexed && index_fits(&lent);
+    all->house = lent.house;
+    all->index = lent.index;
+    all->places = lent.index_length / 2;
+    if (all->indexed) return (struct judged){0};
     struct nos_checked house = read_table(all->records + farm.records, lent.house, lent.house_length);
     if (house.number) return (struct judged){house.number, NOS_IN_THE_HOUSE, house.place};
-    all->farms = farm.records;
-    all->count = farm.records + house.records;
+    if (lent.indexed) return (struct judged){NOS_BAD_INDEX, NOS_IN_THE_INDEX, 0};
+    all->count += house.records;
     return (struct judged){0};
 }
 
 static struct nos_variable look_up(const uint8_t *name, size_t name_length, const uint8_t *farm, size_t farm_length,
-                                   const uint8_t *house, size_t house_length)
+                                   const uint8_t *house, size_t house_length, const uint8_t *index, size_t index_length,
+                                   uint32_t indexed)
 {
     struct variables all;
-    struct judged judged = index_both(&all, 0, (struct nos_tables){farm, farm_length, house, house_length});
+    struct record by_index;
+    struct nos_tables lent = {farm, farm_length, house, house_length, index, index_length, indexed};
+    struct judged judged = read_both(&all, 0, lent);
     if (judged.number) return (struct nos_variable){.number = judged.number, .counted = judged.counted, .place = judged.place};
-    const struct record *r = find(&all, name, name_length);
+    const struct record *r = find(&all, name, name_length, &by_index);
     if (!r) return (struct nos_variable){.number = NOS_UNKNOWN_NAME};
-    bool is_farms = r < all.records + all.farms;
+    bool is_farms = r != &by_index && r < all.records + all.farms;
     const uint8_t *table = is_farms ? farm : house;
     return (struct nos_variable){.counted = is_farms ? NOS_IN_THE_FARM : NOS_IN_THE_HOUSE, .place = (size_t)(r->name - 5 - table),
                                  .kind = r->kind, .length = r->value_length, .start = (size_t)(r->value - table)};
@@ -389,7 +512,8 @@ static unsigned give_reference(struct work *w, struct reading *r, unsigned depth
         give(w, (uint8_t)read.value);
     } else {
         if (read.number == NOS_TOO_BIG) return NOS_TOO_BIG;
-        const struct record *v = find(w->variables, content, length);
+        struct record by_index;
+        const struct record *v = find(w->variables, content, length, &by_index);
         if (!v) return NOS_UNKNOWN_NAME;
         number = give_variable(w, v, depth);
         if (number) return number;
@@ -469,10 +593,12 @@ static struct nos_answer refused_text(unsigned number, unsigned counted, size_t 
 }
 
 static struct nos_answer translate(const uint8_t *text, size_t length, const uint8_t *farm, size_t farm_length, const uint8_t *house,
-                                   size_t house_length, uint32_t flags, uint32_t allowance, uint8_t *out, size_t room)
+                                   size_t house_length, const uint8_t *index, size_t index_length, uint32_t indexed, uint32_t flags,
+                                   uint32_t allowance, uint8_t *out, size_t room)
 {
     struct variables all;
-    struct judged judged = index_both(&all, length, (struct nos_tables){farm, farm_length, house, house_length});
+    struct nos_tables lent = {farm, farm_length, house, house_length, index, index_length, indexed};
+    struct judged judged = read_both(&all, length, lent);
     if (judged.number) return refused_text(judged.number, judged.counted, judged.place, 0, room);
     unsigned left = allowance < MOST_LOOK_UPS ? allowance : MOST_LOOK_UPS;
     struct work measure = {.variables = &all, .left = left}, write = {.variables = &all, .left = left, .out = out};
@@ -657,7 +783,7 @@ static uint32_t expression(struct parser *p, unsigned level, unsigned depth);
 static uint32_t value_of_name(struct parser *p, const struct token *t)
 {
     if (p->refused) return 0;
-    const struct record *v = find(p->variables, p->text + t->place, t->next - t->place);
+    const struct record *v = find_in(p->variables->records, p->variables->count, p->text + t->place, t->next - t->place);
     if (!v) return refuse(p, NOS_UNKNOWN_NAME, t->place);
     if (v->kind != NOS_INTEGER) return refuse(p, NOS_NOT_AN_INTEGER, t->place);
     if (p->left == 0) return refuse(p, NOS_ALLOWANCE_SPENT, t->place);
@@ -733,7 +859,7 @@ static struct nos_value evaluate(const uint8_t *text, size_t length, const uint8
                                  size_t house_length, uint32_t allowance)
 {
     struct variables all;
-    struct judged judged = index_both(&all, length, (struct nos_tables){farm, farm_length, house, house_length});
+    struct judged judged = read_both(&all, length, (struct nos_tables){farm, farm_length, house, house_length, NULL, 0, 0});
     if (judged.number) return refused_expression(judged.number, judged.counted, judged.place);
     struct parser p = {.text = text, .length = length, .variables = &all};
     p.left = allowance < MOST_LOOK_UPS ? allowance : MOST_LOOK_UPS;
@@ -750,6 +876,7 @@ const struct calls PLAIN_NAME = {
     .convert = convert,
     .read_unsigned = read_unsigned,
     .check_table = check_table,
+    .build_index = build_index,
     .look_up = look_up,
     .translate = translate,
     .evaluate = evaluate,
