@@ -5,7 +5,7 @@ import random
 
 from .header import LONG
 from .messages import refusal
-from .refusals import BUILD_ANEW, DAMAGED, GIVE_TABLE, MANY, SEVERAL
+from .refusals import BUILD_ANEW, DAMAGED, GIVE_TABLE, MANY, MEND_NAME, SEVERAL
 from .table_changes import in_other_letters
 from .table_texts import random_variables
 from .trial import Case, accepted, refused
@@ -132,6 +132,7 @@ def of_empty_tables():
     for args in ("--table t --index i", "--index i", "--index=i --farm farm", "--table t --farm farm --index i"):
         files = {"t": b"", "farm": table(*FARM)}
         yield accepted(f"translate {args}", b"Ash", given=b"Ash", files={**files, "i": b""})
+        yield refused(f"translate {args}", refusal(10, 0, "the text", b"<Unit>", MEND_NAME), given=b"<Unit>", files={**files, "i": b""})
         says = refusal(20, 0, "the index i", advice=BUILD_ANEW if "--table" in args else GIVE_TABLE)
         for data in (b"\0", b"\0\0", index(*FARM), LONG):
             yield refused(f"translate {args}", says, given=b"Ash", files={**files, "i": data})

@@ -1,14 +1,17 @@
 """One accepted and one refused run of every command: few enough to look for leaks in, which takes some machines seconds for each."""
 
-from .commands import ALL
+from .commands import ALL, TABLES
 from .refusals import every_refusal
 from .trial import accepted, refused
+from .variables import HOUSE, index
 
 
 def cases():
     for name, synopsis in ALL.items():
         yield accepted([*name, *synopsis.arguments], synopsis.out, files=synopsis.files, given=synopsis.given,
                        makes=synopsis.makes)
+    yield accepted("translate --farm farm --table house --index i", b"Lower Ash kg", files={**TABLES, "i": index(*HOUSE)},
+                   given=b"<Farm$Name> <Unit>")
     first = {}
     for one in every_refusal():
         if one.number != 18:  # what is over 65,535 bytes takes another way
