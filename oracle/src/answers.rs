@@ -2,26 +2,45 @@
 
 use crate::dates::{self, Dated, Undated};
 use crate::expressions::{self, Value};
-use crate::gs::{self, Flags, Translated};
+use crate::gs::{self, Flags, Translated, Untranslated};
+use crate::index::{self, Built};
 use crate::lines::{hex, Case};
 use crate::numbers;
 use crate::reader;
 use crate::refusal::{Located, Refused, Slice};
-use crate::variables::{LentTables, Table, Tables};
+use crate::variables::{Found, LentTables, Record, Table, Tables};
 
 pub fn answer(case: &Case) -> String {
     match case {
         Case::Conv { call, value, room } => conv(*call, *value, *room),
         Case::Read { text, whole, limit } => read(text, *whole, *limit),
         Case::Table { table } => count(table),
-        Case::Look { tables, name } => look(tables, name),
+        Case::Look { tables, name } => look(tables, None, name),
+        Case::Index { table, room } => build(table, *room),
+        Case::Ilook { table, index, name } => look_through(index, table, name),
+        Case::Flook {
+            tables,
+            index,
+            name,
+        } => look(tables, index.as_deref(), name),
         Case::Trans {
             text,
             tables,
+            index,
             flags,
             allowance,
             room,
-        } => trans(text, tables, Flags(*flags), *allowance, *room),
+        } => {
+            let translated = gs::translate(
+                text,
+                tables,
+                index.as_deref(),
+                Flags(*flags),
+                *allowance,
+                *room,
+            );
+            trans(translated, *room)
+        }
         Case::Eval {
             text,
             tables,
@@ -58,23 +77,49 @@ fn count(table: &[u8]) -> String {
     }
 }
 
-fn look(tables: &LentTables, name: &[u8]) -> String {
-    let found = match Tables::read(tables) {
-        Ok(tables) => tables.look_up(name),
-        Err(refused) => return no_at(refused),
-    };
-    match found {
-        Some(found) => {
-            let (which, record) = (letter(found.slice), found.record);
-            let (place, kind) = (record.place, record.kind as u8);
-            format!("rec {which} {place} {kind} {}", hex(record.value))
-        }
-        None => "none".to_owned(),
+fn build(table: &[u8], room: usize) -> String {
+    match index::build(table, room) {
+        Ok(Built { index, free }) => format!("ok {} {} {free}", hex(&index), index.len()),
+        Err(refusal) => format!("{} {} {room}", no_at(refusal.refused), refusal.need),
     }
 }
 
-fn trans(text: &[u8], tables: &LentTables, flags: Flags, allowance: u32, room: usize) -> String {
-    match gs::translate(text, tables, flags, allowance, room) {
+fn look(tables: &LentTables, index: Option<&[u8]>, name: &[u8]) -> String {
+    looked_up(tables, index, name, |Found { slice, record }| {
+        format!("rec {} {}", letter(slice), shown(&record))
+    })
+}
+
+/// A look-up in one table only does not say in which.
+fn look_through(index: &[u8], table: &[u8], name: &[u8]) -> String {
+    let alone = LentTables {
+        farm: Vec::new(),
+        house: table.to_vec(),
+    };
+    looked_up(&alone, Some(index), name, |found| {
+        format!("rec {}", shown(&found.record))
+    })
+}
+
+fn looked_up(
+    tables: &LentTables,
+    index: Option<&[u8]>,
+    name: &[u8],
+    line_of: impl Fn(Found) -> String,
+) -> String {
+    match Tables::read_indexed(tables, index) {
+        Ok(tables) => tables.look_up(name).map_or("none".to_owned(), line_of),
+        Err(refused) => no_at(refused),
+    }
+}
+
+fn shown(record: &Record) -> String {
+    let (place, kind) = (record.place, record.kind as u8);
+    format!("{place} {kind} {}", hex(record.value))
+}
+
+fn trans(translated: Result<Translated, Untranslated>, room: usize) -> String {
+    match translated {
         Ok(Translated { output, end, free }) => {
             format!("ok {} {end} {} {free}", hex(&output), output.len())
         }
@@ -117,6 +162,7 @@ fn letter(slice: Slice) -> char {
         Slice::Text => 't',
         Slice::Farm => 'f',
         Slice::House => 'h',
+        Slice::Index => 'i',
     }
 }
 
@@ -125,9 +171,16 @@ mod tests {
     use super::*;
     use crate::lines::parse;
 
+    fn assert_answered(lines: &[(&str, &str)]) {
+        for (line, expected) in lines {
+            let case = parse(line).expect(line);
+            assert_eq!(answer(&case), *expected, "{line}");
+        }
+    }
+
     #[test]
     fn every_kind_of_answer_has_its_line() {
-        for (line, expected) in [
+        assert_answered(&[
             ("conv 216 1048576 8", "ok 31303438353736 7 1"),
             ("conv 216 1048576 7", "no 1 0 8 7"),
             ("conv 40 1048576 7", "ok 31303438353736 7 0"),
@@ -176,9 +229,37 @@ mod tests {
             ("date 0000000000 2c257733 9", "no 19 1 0 9"),
             ("date 00000000 257733 9", "no 18 0 0 9"),
             ("date ffffffffff - 1", "ok - 0 1"),
-        ] {
-            let case = parse(line).expect(line);
-            assert_eq!(answer(&case), expected, "{line}");
-        }
+        ]);
+    }
+
+    #[test]
+    fn every_kind_of_answer_with_an_index_has_its_line() {
+        assert_answered(&[
+            ("index - 0", "ok - 0 0"),
+            ("index - 3", "ok - 0 3"),
+            ("index 565200010062565200010041 5", "ok 06000000 4 1"),
+            ("index 565200010062565200010041 3", "no 1 t 0 4 3"),
+            ("index 56520001006256 9", "no 13 h 6 0 9"),
+            ("ilook 565200010062565202010141ff 06000000 61", "rec 6 2 ff"),
+            ("ilook 565200010062565202010141ff 06000000 42", "rec 0 0 -"),
+            ("ilook 565200010062565202010141ff 06000000 -", "none"),
+            ("ilook 565200010062565202010141ff 00000600 61", "no 20 i 0"),
+            ("ilook 565200010062565202010141 - 61", "no 13 h 6"),
+            ("ilook - - 61", "none"),
+            ("ilook - 0000 61", "no 20 i 0"),
+            ("flook 56520001016178 565200010061 0000 41", "rec f 0 0 78"),
+            ("flook - 565200010061 0000 41", "rec h 0 0 -"),
+            ("flook - 565200010061 x 41", "rec h 0 0 -"),
+            ("flook - 565200010061 x 42", "none"),
+            ("flook 565200010061 565200010061 - 41", "no 20 i 0"),
+            ("flook 565200010061 - 0000 41", "no 20 i 0"),
+            ("flook 565200010061 - - 41", "rec f 0 0 -"),
+            ("flook 56 5652000100 - 41", "no 13 f 0"),
+            ("flook - 56520001006156 - 41", "no 13 h 6"),
+            ("trans 3c413e - 56520001016178 0000 0 1 3", "ok 78 3 1 2"),
+            ("trans 7c - 56520001016178 0100 0 1 3", "no 20 i 0 0 3"),
+            ("trans - 56 56520001016178 0100 0 1 3", "no 13 f 0 0 3"),
+            ("trans - - - - 0 0 0", "ok - 0 0 0"),
+        ]);
     }
 }

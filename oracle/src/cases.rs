@@ -4,6 +4,7 @@ mod dates;
 mod expressions;
 mod forms;
 mod gs;
+mod indexes;
 mod limits;
 mod numbers;
 mod pairs;
@@ -16,8 +17,9 @@ pub use dates::calendar;
 
 use crate::lines::Case;
 use crate::random::Random;
+use indexes::{building, looks, owners, texts};
 
-/// One of the seven operations, with where its cases come from.
+/// One of the operations, or one with an index, with where its cases come from.
 #[derive(Clone, Copy)]
 pub struct Operation {
     name: &'static str,
@@ -25,7 +27,7 @@ pub struct Operation {
     random: fn(&mut Random) -> Case,
 }
 
-pub const OPERATIONS: [Operation; 7] = [
+pub const OPERATIONS: [Operation; 11] = [
     Operation {
         name: "conv",
         fixed: numbers::fixed,
@@ -60,6 +62,27 @@ pub const OPERATIONS: [Operation; 7] = [
         name: "date",
         fixed: dates::fixed,
         random: dates::random,
+    },
+    Operation {
+        name: "index",
+        fixed: building::fixed,
+        random: building::random,
+    },
+    Operation {
+        name: "ilook",
+        fixed: looks::fixed,
+        random: looks::random,
+    },
+    Operation {
+        name: "flook",
+        fixed: owners::fixed,
+        random: owners::random,
+    },
+    // Translations with an index; their lines are those of `trans`.
+    Operation {
+        name: "itrans",
+        fixed: texts::fixed,
+        random: texts::random,
     },
 ];
 
@@ -105,35 +128,34 @@ mod tests {
 
     #[test]
     fn the_count_is_split_evenly() {
-        let written = written(1, 20, &OPERATIONS);
-        let share = |name: &str| {
-            let of_it = |line: &&String| line.split(' ').next() == Some(name);
+        let written = written(1, 24, &OPERATIONS);
+        let share = |word: &str| {
+            let of_it = |line: &&String| line.split(' ').next() == Some(word);
             written.iter().filter(of_it).count()
         };
-        assert_eq!(
-            OPERATIONS.map(|operation| share(operation.name)),
-            [3, 3, 3, 3, 3, 3, 2]
-        );
+        let words = [
+            "conv", "read", "table", "look", "eval", "date", "index", "ilook", "flook",
+        ];
+        assert_eq!(words.map(share), [3, 3, 2, 2, 2, 2, 2, 2, 2]);
+        assert_eq!(share("trans"), 2 + 2);
     }
 
     /// The words of an answer that say what kind of answer it is, without values and places.
     fn kind_of(answer: &str) -> String {
         let mut words = answer.split(' ');
-        let in_slice = |word: &&str| matches!(*word, "t" | "f" | "h");
-        match words.next() {
-            Some("no") => {
-                let number = words.next().expect("a refusal number");
-                let slice = words.next().filter(in_slice);
-                let named = |slice: &str| format!("no {number} {slice}");
-                slice.map_or(format!("no {number}"), named)
-            }
-            Some("rec") => format!("rec {}", words.next().expect("a table")),
-            word => word.unwrap_or_default().to_owned(),
+        let in_slice = |word: &&str| matches!(*word, "t" | "f" | "h" | "i");
+        let mut kind = words.next().unwrap_or_default().to_owned();
+        if kind == "no" {
+            kind = format!("no {}", words.next().expect("a refusal number"));
+        }
+        match words.next().filter(in_slice) {
+            Some(slice) => format!("{kind} {slice}"),
+            None => kind,
         }
     }
 
-    /// Every kind of answer that an operation with two tables or with a format can give.
-    const KINDS: [(&str, &[&str]); 4] = [
+    /// Every kind of answer that an operation with tables, an index or a format can give.
+    const KINDS: [(&str, &[&str]); 8] = [
         (
             "look",
             &[
@@ -155,6 +177,21 @@ mod tests {
             ],
         ),
         ("date", &["ok", "no 18", "no 19", "no 1"]),
+        ("index", &["ok", "no 18 h", "no 13 h", "no 1 t"]),
+        ("ilook", &["rec", "none", "no 18 h", "no 13 h", "no 20 i"]),
+        (
+            "flook",
+            &[
+                "rec f", "rec h", "none", "no 18 f", "no 18 h", "no 13 f", "no 13 h", "no 20 i",
+            ],
+        ),
+        (
+            "itrans",
+            &[
+                "ok", "no 18 t", "no 18 f", "no 18 h", "no 13 f", "no 13 h", "no 20 i", "no 1 t",
+                "no 4 t", "no 7 t", "no 8 t", "no 9 t", "no 10 t", "no 11 t", "no 12 t",
+            ],
+        ),
     ];
 
     #[test]

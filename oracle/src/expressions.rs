@@ -30,7 +30,8 @@ pub struct Value {
 
 /// Evaluates a text: 18, 13; then the syntax of all of it; then the values from the left.
 pub fn evaluate(lent: &[u8], tables: &LentTables, allowance: u32) -> Result<Value, Located> {
-    let tables = tables_for(lent, tables)?;
+    // Expressions take no index.
+    let tables = tables_for(lent, tables, None)?;
     let text = until_end(lent);
     let value = steps_of(text)
         .and_then(|steps| value_of(&steps, &tables, Allowance::new(allowance)))

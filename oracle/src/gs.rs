@@ -67,16 +67,17 @@ impl From<Located> for Untranslated {
     }
 }
 
-/// Translates a text: 18, 13, then what the reading meets, and 1 last.
+/// Translates a text: 18, 13, 20, then what the reading meets, and 1 last.
 pub fn translate(
     text: &[u8],
     tables: &LentTables,
+    index: Option<&[u8]>,
     flags: Flags,
     allowance: u32,
     room: usize,
 ) -> Result<Translated, Untranslated> {
     let mut translator = Translator {
-        tables: tables_for(text, tables)?,
+        tables: tables_for(text, tables, index)?,
         allowance: Allowance::new(allowance),
         output: Vec::new(),
     };
@@ -286,7 +287,7 @@ mod tests {
 
     /// The answer as a short text: the output "to" its end, or a refusal "at" its text's place.
     fn over(text: &str, tables: &LentTables, flags: u32, allowance: u32) -> String {
-        match translate(text.as_bytes(), tables, Flags(flags), allowance, ROOM) {
+        match translate(text.as_bytes(), tables, None, Flags(flags), allowance, ROOM) {
             Ok(done) => format!("{} to {}", done.output.escape_ascii(), done.end),
             Err(Untranslated {
                 refused:
@@ -339,7 +340,7 @@ mod tests {
             free: 0,
         };
         let none = LentTables::default();
-        assert_eq!(translate(b"", &none, Flags::NONE, 0, 0), Ok(nothing));
+        assert_eq!(translate(b"", &none, None, Flags::NONE, 0, 0), Ok(nothing));
     }
 
     #[test]
@@ -466,10 +467,10 @@ mod tests {
     #[test]
     fn no_room_comes_last() {
         let none = LentTables::default();
-        let short = translate(b"abc<nope>", &none, Flags::NONE, 0, 0).expect_err("a refusal");
+        let short = translate(b"abc<nope>", &none, None, Flags::NONE, 0, 0).expect_err("a refusal");
         let unknown = Refusal::UnknownName.at(3).within(Slice::Text);
         assert_eq!(short, Untranslated::from(unknown));
-        let short = translate(b"abc", &none, Flags::NONE, 0, 2).expect_err("a refusal");
+        let short = translate(b"abc", &none, None, Flags::NONE, 0, 2).expect_err("a refusal");
         let refused = Refusal::NoRoom.at(0).within(Slice::Text);
         assert_eq!(short, Untranslated { refused, need: 3 });
     }
@@ -526,12 +527,36 @@ mod tests {
     }
 
     #[test]
+    fn an_index_that_does_not_fit_is_refused_under_every_text() {
+        let farm = record(0, "f", b"F");
+        let house = [record(2, "m", b"<A><f>"), record(0, "a", b"x")].concat();
+        let both = lent(&farm, &house);
+        let (right, wrong) = ([12, 0, 0, 0], [0, 0, 12, 0]);
+        let translated =
+            |text: &[u8], index: &[u8]| translate(text, &both, Some(index), Flags::NONE, 9, 0);
+        let unfit = Untranslated::from(Refusal::BadIndex.at(0).within(Slice::Index));
+        for text in [
+            "", "x", "|1", "<", "\"", "<4294967296>", "<nope>", "<m>", "\n",
+        ] {
+            for index in [&wrong[..], &right[..3], b"", b"\x0c\0\0\0\0"] {
+                assert_eq!(translated(text.as_bytes(), index).as_ref(), Err(&unfit));
+            }
+            let plain = translate(text.as_bytes(), &both, None, Flags::NONE, 9, 0);
+            assert_eq!(translated(text.as_bytes(), &right), plain);
+        }
+        let done = translate(b"<m><f>", &both, Some(&right), Flags::NONE, 4, 3);
+        assert_eq!(done.map(|done| done.output), Ok(b"xFF".to_vec()));
+        let over = Untranslated::from(Refusal::OverLong.at(0).within(Slice::Text));
+        assert_eq!(translated(&[b'a'; 65_536], &wrong), Err(over));
+    }
+
+    #[test]
     fn a_bad_table_is_refused_under_every_text() {
         let good = record(0, "a", b"xyz");
         let bad = [&good[..], b"VR"].concat();
         let at = |place, slice| Untranslated::from(Refusal::BadTable.at(place).within(slice));
         let refused = |farm: &[u8], house: &[u8]| {
-            translate(b"|", &lent(farm, house), Flags::NONE, 0, 0).expect_err("a refusal")
+            translate(b"|", &lent(farm, house), None, Flags::NONE, 0, 0).expect_err("a refusal")
         };
         assert_eq!(refused(&bad, &good), at(9, Slice::Farm));
         assert_eq!(refused(&good, &bad), at(9, Slice::House));

@@ -4,7 +4,7 @@ use crate::variables::LentTables;
 use std::fmt::{self, Display, Formatter};
 use std::str::{FromStr, Split};
 
-/// One case of one of the seven operations.
+/// One case of one of the ten operations.
 #[derive(Debug, PartialEq, Eq)]
 pub enum Case {
     Conv {
@@ -24,9 +24,26 @@ pub enum Case {
         tables: LentTables,
         name: Vec<u8>,
     },
+    Index {
+        table: Vec<u8>,
+        room: usize,
+    },
+    /// A look-up through an index in one table, the house's.
+    Ilook {
+        table: Vec<u8>,
+        index: Vec<u8>,
+        name: Vec<u8>,
+    },
+    /// A look-up in both tables, the house's with an index or without one.
+    Flook {
+        tables: LentTables,
+        index: Option<Vec<u8>>,
+        name: Vec<u8>,
+    },
     Trans {
         text: Vec<u8>,
         tables: LentTables,
+        index: Option<Vec<u8>>,
         flags: u32,
         allowance: u32,
         room: usize,
@@ -43,7 +60,7 @@ pub enum Case {
     },
 }
 
-/// What stands in a translation's line where an index of the house table could be given.
+/// What stands for an index of the house table where none is given.
 const NO_INDEX: &str = "x";
 
 /// A byte string as the format shows it: lower-case hex, the empty one as a dash.
@@ -72,16 +89,25 @@ impl Display for Case {
             Case::Look { tables, name } => {
                 write!(out, "look {} {}", both_in_hex(tables), hex(name))
             }
+            Case::Index { table, room } => write!(out, "index {} {room}", hex(table)),
+            Case::Ilook { table, index, name } => {
+                write!(out, "ilook {} {} {}", hex(table), hex(index), hex(name))
+            }
+            Case::Flook {
+                tables,
+                index,
+                name,
+            } => write!(out, "flook {} {}", all_in_hex(tables, index), hex(name)),
             Case::Trans {
                 text,
                 tables,
+                index,
                 flags,
                 allowance,
                 room,
             } => {
-                let (text, tables) = (hex(text), both_in_hex(tables));
-                let limits = format!("{flags} {allowance} {room}");
-                write!(out, "trans {text} {tables} {NO_INDEX} {limits}")
+                let (text, lent) = (hex(text), all_in_hex(tables, index));
+                write!(out, "trans {text} {lent} {flags} {allowance} {room}")
             }
             Case::Eval {
                 text,
@@ -101,6 +127,12 @@ impl Display for Case {
 /// The two fields of the tables, the farm's first.
 fn both_in_hex(tables: &LentTables) -> String {
     format!("{} {}", hex(&tables.farm), hex(&tables.house))
+}
+
+/// The fields of the tables and of an index; none is another thing than an empty one.
+fn all_in_hex(tables: &LentTables, index: &Option<Vec<u8>>) -> String {
+    let index = index.as_deref().map_or(NO_INDEX.to_owned(), hex);
+    format!("{} {index}", both_in_hex(tables))
 }
 
 /// Reads a case from its line, or says what is wrong with it.
@@ -124,6 +156,12 @@ pub fn parse(line: &str) -> Result<Case, String> {
             tables: fields.tables()?,
             name: fields.bytes("name")?,
         },
+        "index" => Case::Index {
+            table: fields.bytes("table")?,
+            room: fields.number("room")?,
+        },
+        "ilook" => fields.ilook()?,
+        "flook" => fields.flook()?,
         "trans" => fields.trans()?,
         "eval" => Case::Eval {
             text: fields.bytes("text")?,
@@ -159,14 +197,27 @@ impl<'l> Fields<'l> {
         bytes(field).ok_or_else(|| format!("bad {what}"))
     }
 
+    fn ilook(&mut self) -> Result<Case, String> {
+        Ok(Case::Ilook {
+            table: self.bytes("table")?,
+            index: self.bytes("index")?,
+            name: self.bytes("name")?,
+        })
+    }
+
+    fn flook(&mut self) -> Result<Case, String> {
+        Ok(Case::Flook {
+            tables: self.tables()?,
+            index: self.index()?,
+            name: self.bytes("name")?,
+        })
+    }
+
     fn trans(&mut self) -> Result<Case, String> {
-        let (text, tables) = (self.bytes("text")?, self.tables()?);
-        if self.next("index")? != NO_INDEX {
-            return Err("bad index".to_owned());
-        }
         Ok(Case::Trans {
-            text,
-            tables,
+            text: self.bytes("text")?,
+            tables: self.tables()?,
+            index: self.index()?,
             flags: self.number("flags")?,
             allowance: self.number("allowance")?,
             room: self.number("room")?,
@@ -178,6 +229,13 @@ impl<'l> Fields<'l> {
             farm: self.bytes("farm's table")?,
             house: self.bytes("house table")?,
         })
+    }
+
+    fn index(&mut self) -> Result<Option<Vec<u8>>, String> {
+        match self.next("index")? {
+            NO_INDEX => Ok(None),
+            field => Ok(Some(bytes(field).ok_or("bad index")?)),
+        }
     }
 
     fn whole(&mut self) -> Result<bool, String> {
@@ -241,7 +299,16 @@ mod tests {
             "table 56520001016178",
             "look 56520001016178 - -",
             "look - 56520001016178 41",
+            "index 5652 0",
+            "index - 65535",
+            "ilook 56520001016178 0000 41",
+            "ilook - - -",
+            "flook 56520001016178 565200010061 0000 41",
+            "flook - 00 - -",
+            "flook 01 - x 00",
             "trans 3c413e62 5652 56520001016178 x 4294967295 1 2",
+            "trans 3c413e62 5652 56520001016178 - 4294967295 1 2",
+            "trans 3c413e62 5652 56520001016178 000102 4294967295 1 2",
             "eval 00ff - 01 4294967295",
             "date 0102030405 25435300 3",
             "date - - 0",
@@ -256,8 +323,13 @@ mod tests {
             "", "conv", "conv 216 1 ", "conv 216 4294967296 8", "conv 216 +1 8", "conv 216  1 8",
             "conv 216 1 8 9", "read 3 1 -", "read  1 -", "read 3A 1 -", "read 30 2 -",
             "read 30 1 x", "Table -", "table -\r", "table - -", "look - 41", "look - - - -",
-            "trans - - 0 0 0", "trans - - - 0 0 0", "trans - - - - 0 0 0", "trans - - - X 0 0 0",
-            "trans - - - 00 0 0 0", "trans - - x 0 0 0", "eval 31 - 0", "eval 31 - - x 0",
+            "index -", "index - -", "index x 0", "index - 0 0", "index - - 0", "index 0 0",
+            "ilook - -", "ilook - - - -", "ilook - x -", "ilook x - -", "ilook - 0 -",
+            "ilook -  -", "flook - - -", "flook - - - - -", "flook - x - -", "flook x - - -",
+            "flook - - X -", "flook - - 0 -", "flook - - xx -", "flook - -  -", "Index - 0",
+            "Ilook - - -", "trans - - 0 0 0", "trans - - - 0 0 0", "trans - - - X 0 0 0",
+            "trans - - - 0 0 0 0", "trans - - - 0F 0 0 0", "trans - - -  0 0 0",
+            "trans - - - - x 0 0 0", "trans - - x 0 0 0", "eval 31 - 0", "eval 31 - - x 0",
             "date - -", "date - 0", "date - - 0 0", "date  - 0", "date - - -", "date 0 - 0",
             "date 00 25C3 0",
         ] {

@@ -5,6 +5,7 @@ mod cases;
 mod dates;
 mod expressions;
 mod gs;
+mod index;
 mod lines;
 mod numbers;
 mod random;
@@ -21,7 +22,8 @@ use std::process::ExitCode;
 const USAGE: &str = "usage: oracle answer < CASES
        oracle cases SEED COUNT [OP ..]
        oracle calendar
-OP is one of: conv read table look trans eval date (none named: all seven)
+OP is one of: conv read table look trans eval date index ilook flook itrans (none named: all)
+itrans gives translations through an index
 calendar gives the cases of every day that a time falls on";
 
 fn main() -> ExitCode {

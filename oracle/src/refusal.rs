@@ -25,6 +25,7 @@ pub enum Refusal {
     NotInteger = 17,
     OverLong = 18,
     BadField = 19,
+    BadIndex = 20,
 }
 
 impl Refusal {
@@ -64,6 +65,7 @@ pub enum Slice {
     Text,
     Farm,
     House,
+    Index,
 }
 
 /// A refusal that says in which slice its place is counted.

@@ -1,5 +1,6 @@
 //! Chapter "Variables": a table of records, and what a name means over the farm's and the house's.
 
+use crate::index::Index;
 use crate::refusal::{check_length, Located, Refusal, Refused, Slice};
 
 /// The two bytes that each record stands behind.
@@ -68,6 +69,11 @@ impl<'a> Table<'a> {
         self.records.len()
     }
 
+    /// The records as they stand in the table.
+    pub fn records(&self) -> &[Record<'a>] {
+        &self.records
+    }
+
     /// Names are equal when they differ only in the case of A to Z.
     pub fn look_up(&self, name: &[u8]) -> Option<Record<'a>> {
         let equal = |record: &&Record| record.name.eq_ignore_ascii_case(name);
@@ -120,11 +126,12 @@ pub struct LentTables {
     pub house: Vec<u8>,
 }
 
-/// Two good tables. A name may stand in both.
+/// Two good tables, the house's with a fitting index or without one. A name may stand in both.
 #[derive(Debug, PartialEq, Eq)]
 pub struct Tables<'a> {
     farm: Table<'a>,
     house: Table<'a>,
+    index: Option<Index<'a>>,
 }
 
 /// A record, with the table that its place is counted in.
@@ -144,23 +151,48 @@ impl<'a> Tables<'a> {
         Ok(Tables {
             farm: Table::read(&lent.farm).map_err(in_farm)?,
             house: Table::read(&lent.house).map_err(in_house)?,
+            index: None,
         })
+    }
+
+    /// Reads both tables; then 20 for an index of the house's, where one is lent.
+    pub fn read_indexed(lent: &'a LentTables, index: Option<&'a [u8]>) -> Result<Self, Located> {
+        let mut tables = Self::read(lent)?;
+        if let Some(index) = index {
+            let index = Index::read(index, &lent.house, &tables.house)
+                .map_err(|refused| refused.within(Slice::Index))?;
+            tables.index = Some(index);
+        }
+        Ok(tables)
     }
 
     /// What a name means: the farm's record, whatever the house has of that name, or the house's.
     pub fn look_up(&self, name: &[u8]) -> Option<Found<'a>> {
-        let found = |table: &Table<'a>, slice| {
-            let record = table.look_up(name)?;
-            Some(Found { slice, record })
-        };
-        found(&self.farm, Slice::Farm).or_else(|| found(&self.house, Slice::House))
+        let found_in = |slice| move |record| Found { slice, record };
+        let in_farm = self.farm.look_up(name).map(found_in(Slice::Farm));
+        let in_house = self.in_house(name).map(found_in(Slice::House));
+        in_farm.or(in_house)
+    }
+
+    /// The house's record of a name; the index, where there is one, has to lead to the same.
+    fn in_house(&self, name: &[u8]) -> Option<Record<'a>> {
+        let record = self.house.look_up(name);
+        if let Some(index) = &self.index {
+            let place = record.map(|record| record.place);
+            assert_eq!(index.place_of(name), place, "two ways to {name:?} differ");
+        }
+        record
     }
 }
 
-/// What every operation on a text begins with: 18 for the text, then the two tables.
-pub fn tables_for<'a>(text: &[u8], lent: &'a LentTables) -> Result<Tables<'a>, Located> {
+/// What every operation on a text begins with: 18 for the text, then the two tables and the index.
+pub fn tables_for<'a>(
+    text: &[u8],
+    lent: &'a LentTables,
+    index: Option<&'a [u8]>,
+) -> Result<Tables<'a>, Located> {
     check_length(text).map_err(|refused| refused.within(Slice::Text))?;
-    Tables::read(lent)
+    Tables::read_indexed(lent, index)
 }
 
 #[cfg(test)]
@@ -265,7 +297,7 @@ mod tests {
         let other_bad = [&short[..], &record(0, b"b", b""), b"V"].concat();
         let over = Refusal::OverLong.at(0);
         let refused = |text: &[u8], farm: &[u8], house: &[u8]| {
-            tables_for(text, &lent(farm, house)).expect_err("a refusal")
+            tables_for(text, &lent(farm, house), None).expect_err("a refusal")
         };
         assert_eq!(refused(&long, &long, &long), over.within(Slice::Text));
         assert_eq!(refused(&long, &bad, &bad), over.within(Slice::Text));
@@ -304,6 +336,69 @@ mod tests {
                 assert_eq!(tables.look_up(b"a"), None);
             }
         }
+    }
+
+    #[test]
+    fn the_index_is_judged_behind_both_tables() {
+        let long = vec![0; 65_536];
+        let good = [record(0, b"b", b"x"), record(0, b"A", b"y")].concat();
+        let bad = [&good[..], b"V"].concat();
+        let refused = |farm: &[u8], house: &[u8], index: &[u8]| {
+            Tables::read_indexed(&lent(farm, house), Some(index)).map(|_| ())
+        };
+        let unfit = Err(Refusal::BadIndex.at(0).within(Slice::Index));
+        let right = [7, 0, 0, 0];
+        assert_eq!(refused(b"", b"", b""), Ok(()));
+        assert_eq!(refused(&good, b"", b""), Ok(()));
+        assert_eq!(refused(&good, b"", &right), unfit);
+        assert_eq!(refused(b"", &good, &right), Ok(()));
+        assert_eq!(refused(b"", &good, b""), unfit);
+        assert_eq!(refused(b"", &good, &long), unfit);
+        let over = |slice| Err(Refusal::OverLong.at(0).within(slice));
+        assert_eq!(refused(&long, &bad, b""), over(Slice::Farm));
+        assert_eq!(refused(&bad, &long, b""), over(Slice::House));
+        let at = |slice| Err(Refusal::BadTable.at(14).within(slice));
+        for index in [&right[..], b"", &long] {
+            assert_eq!(refused(&bad, &good, index), at(Slice::Farm));
+            assert_eq!(refused(&good, &bad, index), at(Slice::House));
+            assert_eq!(refused(&bad, &bad, index), at(Slice::Farm));
+        }
+    }
+
+    #[test]
+    fn an_index_changes_no_look_up() {
+        let farm = record(0, b"Hidden", b"farm");
+        let house = [
+            record(2, b"hidden", b"house"),
+            record(0, b"ab", b""),
+            record(0, b"A_", b""),
+            record(0, b"a", b""),
+        ]
+        .concat();
+        let both = lent(&farm, &house);
+        let plain = Tables::read(&both).expect("good tables");
+        let index = [30, 0, 23, 0, 16, 0, 0, 0];
+        let indexed = Tables::read_indexed(&both, Some(&index)).expect("its index");
+        for name in [
+            &b"HIDDEN"[..],
+            b"A",
+            b"a_",
+            b"AB",
+            b"",
+            b"b",
+            b"a!",
+            b"abc",
+            b"hidde",
+            b"~",
+            &[b'a'; 33],
+        ] {
+            assert_eq!(indexed.look_up(name), plain.look_up(name));
+        }
+        let found = indexed.look_up(b"hIDDEN").expect("a known name");
+        assert_eq!(
+            (found.slice, found.record.value),
+            (Slice::Farm, &b"farm"[..])
+        );
     }
 
     #[test]

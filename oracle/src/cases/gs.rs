@@ -39,6 +39,7 @@ fn trans(text: &[u8], pair: &Pair, flags: u32, allowance: u32, room: usize) -> C
     Case::Trans {
         text: text.to_vec(),
         tables: pair.lent(),
+        index: None,
         flags,
         allowance,
         room,
@@ -59,14 +60,14 @@ fn over(text: &[u8], farm: &[u8], house: &[u8], room: usize) -> Case {
     Case::Trans {
         text: text.to_vec(),
         tables,
+        index: None,
         flags: 0,
         allowance: 1,
         room,
     }
 }
 
-/// The examples, the sharp texts, every code, the names, the depths, the allowances, the tables,
-/// long texts.
+/// The examples, the sharp texts, every code, the texts over tables, long texts.
 pub fn fixed() -> Vec<Case> {
     let mut cases = examples();
     for text in SHARP {
@@ -78,16 +79,26 @@ pub fn fixed() -> Vec<Case> {
         }
     }
     cases.extend(codes());
-    cases.extend(named());
-    cases.extend(one_name_everywhere());
-    cases.extend(macros_across());
-    cases.extend(depths());
-    cases.extend(allowances());
-    cases.extend(rooms());
-    cases.extend(in_ill_pairs());
-    cases.extend(in_full_tables());
+    cases.extend(over_tables());
     cases.extend(long());
     cases
+}
+
+/// The names, the depths, the allowances, the rooms, the tables.
+pub fn over_tables() -> Vec<Case> {
+    [
+        named(),
+        one_name_everywhere(),
+        macros_across(),
+        depths(),
+        allowances(),
+        rooms(),
+        in_ill_pairs(),
+        in_full_tables(),
+    ]
+    .into_iter()
+    .flatten()
+    .collect()
 }
 
 /// P10 to P13 and the examples that are not marked.
@@ -375,7 +386,7 @@ fn flags(random: &mut Random) -> u32 {
 
 /// Adds an allowance and a room, both around the exact ones.
 fn with_limits(random: &mut Random, text: Vec<u8>, tables: LentTables, flags: u32) -> Case {
-    let under = |allowance| translate(&text, &tables, Flags(flags), allowance, usize::MAX);
+    let under = |allowance| translate(&text, &tables, None, Flags(flags), allowance, usize::MAX);
     let exact = least_allowance(|allowance| under(allowance).err().map(|no| no.refused));
     let allowance = allowance(random, exact);
     let need = under(allowance).map_or(2, |translated| translated.output.len());
@@ -383,6 +394,7 @@ fn with_limits(random: &mut Random, text: Vec<u8>, tables: LentTables, flags: u3
         room: room(random, need),
         text,
         tables,
+        index: None,
         flags,
         allowance,
     }

@@ -112,9 +112,19 @@ pub fn of_length(length: usize) -> Vec<Entry> {
 
 /// Up to so many good records with different names.
 pub fn random_entries(random: &mut Random, most: usize) -> Vec<Entry> {
+    let count = random.below(most + 1);
+    entries_by(random, count, random_name)
+}
+
+/// So many good records, fewer where the names that are made are not all different.
+pub fn entries_by(
+    random: &mut Random,
+    count: usize,
+    make_name: impl Fn(&mut Random) -> Vec<u8>,
+) -> Vec<Entry> {
     let mut entries: Vec<Entry> = Vec::new();
-    for _ in 0..random.below(most + 1) {
-        let name = random_name(random);
+    for _ in 0..count {
+        let name = make_name(random);
         if !entries
             .iter()
             .any(|other| other.name.eq_ignore_ascii_case(&name))

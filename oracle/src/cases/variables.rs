@@ -329,7 +329,7 @@ pub fn random_look(random: &mut Random) -> Case {
 }
 
 /// The name of a table's first, last or any record, in any case or missed by one byte.
-fn wanted_name(random: &mut Random, pair: &Pair) -> Vec<u8> {
+pub fn wanted_name(random: &mut Random, pair: &Pair) -> Vec<u8> {
     let tables = [&pair.farm, &pair.house];
     let entries = random.pick(&tables);
     if entries.is_empty() || random.one_in(20) {
