@@ -68,7 +68,7 @@ loop-less c = omega arith
 loop-again : tie.Need-loop-again Inv-loop μ-loop
 loop-again c =
     let i = head (c .before) .loop .inv in
-    let l = lower _ _ _ _ _ (i .2 .0) (inside (c .before) .loop-test .taken) (i .2 .1) (told (c .before) (c .if1 .taken)) in
+    let l = lower _ _ _ _ _ (i .2 .0) (omega arith) (i .2 .1) (told (c .before) (c .if1 .taken)) in
     (omega arith, λ h. omega arith, (l .0, l .1, i .2 .2 ∙ l .2))
 
 loop-less-2 : tie.Need-loop-less-2 Inv-loop μ-loop
@@ -77,7 +77,7 @@ loop-less-2 c = omega arith
 loop-again-2 : tie.Need-loop-again-2 Inv-loop μ-loop
 loop-again-2 c =
     let i = head (c .before) .loop .inv in
-    let l = upper _ _ _ _ _ (i .2 .0) (inside (c .before) .loop-test .taken) (i .2 .1) (told (c .before) (c .if1 .left)) in
+    let l = upper _ _ _ _ _ (i .2 .0) (omega arith) (i .2 .1) (told (c .before) (c .if1 .left)) in
     (omega arith, λ h. omega arith, (l .0, l .1, i .2 .2 ∙ l .2))
 
 sub-size : tie.Need-sub-size Inv-loop μ-loop

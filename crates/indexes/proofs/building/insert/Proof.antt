@@ -5,8 +5,8 @@ use Prim.Native.Nat.{ℕ, suc, _+_, _*_, _-_, _/_, _%_, _≤_}
 use native.Mathlib.Numerals.{add-one}
 use native.Mathlib.Omega.{arith}
 use borrow.Author.Needs.{needs}
-use lib.ListN.{length, getD, take, drop, set, length-append, length-set}
-use lib.Seq.{take-add, drop-cons, set-at, append-snoc, length-take-le, take-all}
+use lib.ListN.{length, getD, take, drop, set, length-append}
+use lib.Seq.{take-add, drop-cons, set-at, append-snoc, length-take-le, take-all, lt-length-set}
 use Rattle.records.specs.Records.{nameAt}
 use Rattle.indexes.specs.inner.Halving.{slotIn, gapIn, withEntry}
 use Rattle.indexes.proofs.building.insert.Statement.{statement}
@@ -39,8 +39,7 @@ module _ (out behind : List ℕ) (k a b : ℕ) (h : k + 2 ≤ length out) where
 
 slice-write-out-2 : tie.Need-slice-write-out-2
 slice-write-out-2 c =
-    let gap = c .before .before .open-gap in
-    omega (arith, length-set (gap .last .0) (2 * c .before .before .before .before .slot-in .result) (c .before .before .before .before .before .before .before .before .before .before .args .place % 256))
+    lt-length-set (c .before .before .open-gap .last .0) (2 * c .before .before .before .before .slot-in .result) _ (omega arith)
 
 returns : tie.Need-returns
 unfolding withEntry
