@@ -14,7 +14,7 @@ use Rattle.expressions.specs.Evaluations.{evaluation, result}
 use Rattle.expressions.specs.declared.Evaluated.{Evaluated}
 use Rattle.expressions.specs.declared.Evaluated.the-variants.{Value, Refused, BadTable}
 
--- 01's reading of an expression over two tables, the farm's and the house's, and its value
+-- the paper's reading of an expression over two tables, the farm's and the house's, and its value
 abbrev pub readingOf : List ℕ → List ℕ → List ℕ → Trace
 readingOf text farm house = evaluation (namesOf farm house) (wholeTree text)
 

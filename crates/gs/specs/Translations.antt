@@ -15,7 +15,7 @@ use Rattle.gs.specs.Readings.{readAt}
 use Rattle.gs.specs.declared.Translated.{Translated}
 use Rattle.gs.specs.declared.Translated.the-variants.{Written, Refused, BadTable, BadIndex}
 
--- 01's reading of a text over two tables, the farm's and the house's, at depth 0
+-- the paper's reading of a text over two tables, the farm's and the house's, at depth 0
 abbrev pub readingOf : List ℕ → List ℕ → List ℕ → ℕ → Trace
 readingOf text farm house flags = readAt (namesOf farm house) 0 text flags
 

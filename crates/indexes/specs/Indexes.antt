@@ -35,7 +35,7 @@ pub data Given : Type 0 where
 abbrev pub givenBy : Bool → List ℕ → Given
 givenBy indexed index = cond indexed (index-of index) no-index
 
--- an index fits exactly when its bytes are those that building gives
+-- an index fits exactly when its bytes are those that building gives; where none is given, nothing has to fit
 abbrev pub fits : Given → List ℕ → Bool
 fits no-index house = true
 fits (index-of index) house = sameBytes index (indexOf house)

@@ -55,7 +55,7 @@ fn count_of(index: &[u8]) -> u32
 }
 
 // The house's record that a name leads to through an index. Any bytes are taken for one: where it does not fit, what is found may be
-// another record than the table's own look-up finds, or none.
+// another record than the table's own look-up finds, or none, or what stands at a place where no record starts.
 pub fn search(table: &[u8], index: &[u8], name: &[u8]) -> Match
     ensures { λ r. ⌜ r ≡ matchIn (now (table .entry)) (searched (now (table .entry)) (now (index .entry)) (now (name .entry))) ⌝ }
 {

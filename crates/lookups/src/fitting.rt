@@ -1,6 +1,6 @@
-// A table and an index, judged together and at once: one walk over the records' shapes, one along the index. Where each entry is a
-// record's place and each name comes before the next, no name stands twice and the index is the table's: that is cheaper to see than that
-// the table is good without an index.
+// A table and an index, judged together and at once: one walk over the records' shapes, one along the index. Where there are as many entries
+// as records, each entry is a record's place and each name comes before the next, no name stands twice and the index is the table's: that is
+// cheaper to see than that the table is good without an index.
 ghost use mathlib.Core.Path.{_≡_};
 ghost use mathlib.Core.Bool.{true, false};
 ghost use Prim.Native.Nat.{_*_, _≤_};

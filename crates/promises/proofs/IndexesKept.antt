@@ -1,18 +1,18 @@
 -- What `build_index` promises is kept.
 use mathlib.Core.Path.{_≡_, refl, ap, sym, subst, subst₂, _∙_}
 use mathlib.Core.Bool.{Bool, true, false, false≢true}
-use mathlib.Core.List.{List, [], _∷_, _++_, List·Memᴰ, List·Memᴰ·head as head, List·Memᴰ·tail as tail, List·Memᴰ·not-nil, Memᴰ·cast, Memᴰ·append-left}
+use mathlib.Core.List.{List, [], _∷_, _++_, append-nil, List·Memᴰ, List·Memᴰ·head as head, List·Memᴰ·tail as tail, List·Memᴰ·not-nil, Memᴰ·cast, Memᴰ·append-left}
 use mathlib.Core.Logic.{_↔_, inl}
 use Prim.Native.Nat.{ℕ, zero, suc, _+_, _*_, _-_, _/_, _^_, _≤_, _<_}
 use native.Mathlib.Decide.{decLt, ℕ-discrete}
 use native.Mathlib.Omega.{arith}
-use borrow.Author.Tests.{lt-ltb, le-ltb}
-use lib.ListN.{length, take, drop}
-use lib.Seq.{take-at, drop-at}
+use borrow.Author.Tests.{lt-ltb, le-ltb, eq-eqb, ne-eqb}
+use lib.ListN.{length, getD, take, drop, length-append}
+use lib.Seq.{take-at, drop-at, getD-append-seam}
 use Rattle.paper.specs.Answers.{in-text, in-house, Answer, refusal, Grown, GrownWhole}
 use Rattle.paper.specs.Refusals.{no-room, bad-index, allowance-spent}
 use Rattle.paper.proofs.Choice.{clash, either}
-use Rattle.records.specs.Records.{Entry, sameBytes, comesBefore}
+use Rattle.records.specs.Records.{Entry, small, comesBefore}
 use Rattle.records.proofs.Equal.{reflexive, same-bytes, bytes-same}
 use Rattle.records.proofs.Order as Order
 use Rattle.variables.specs.Tables.{checked, checkNumber, checkPlace, checkCount, recordsOf}
@@ -21,12 +21,13 @@ use Rattle.variables.specs.declared.Checked.the-variants.{Good, BadTable}
 use Rattle.variables.proofs.Bounds.{checked-bounded, good-table}
 use Rattle.variables.proofs.Good.{Laid, laid}
 use Rattle.variables.proofs.Unique.{apart}
-use Rattle.indexes.specs.Indexes.{index-of, indexOf, inOrder, insertedAll, fits}
+use Rattle.indexes.specs.Indexes.{index-of, indexOf, inOrder, insertedAll, placeBytes}
 use Rattle.indexes.specs.Buildings.{builtOver, built, laidBy, indexAfter, builtAnswer, buildNumbers}
-use Rattle.indexes.specs.inner.Halving.{nameIn, nearest}
+use Rattle.indexes.specs.inner.Halving.{placeIn, nearest}
 use Rattle.indexes.specs.declared.building.Built.{Built}
 use Rattle.indexes.specs.declared.building.Built.the-variants.{Written, NoRoom, NotGood}
-use Rattle.indexes.proofs.Searching.{bytes-long, search-same}
+use Rattle.indexes.proofs.Entries.{place-in}
+use Rattle.indexes.proofs.Searching.{bytes-long, search-same, in-order-listed}
 use Rattle.indexes.proofs.Sorting as Sorting
 use Rattle.indexes.proofs.Sorting.{Strict, Weak, strict-order, strict-more, weak-all, kept, all-long}
 use Rattle.promises.proofs.LookupsKept as Lookups
@@ -34,7 +35,17 @@ use Rattle.promises.proofs.TranslationsKept as Translations
 use Rattle.promises.specs.Accepted.{isBuilt}
 use Rattle.promises.specs.Allowed.{Builds}
 use Rattle.promises.specs.Indexes as Promised
-use Rattle.promises.specs.Indexes.{Rise, Arranged, OneArrangement, OneAnswer, Accepts, Refusals, Exactly, Exact, LargerRoom, SecondAsk, Fits, BuiltFits, Halves, ByHalving}
+use Rattle.promises.specs.Indexes.{Rise, Arranged, OneArrangement, OneAnswer, Accepts, Refusals, Exactly, Exact, LargerRoom, SecondAsk, Fits, BuiltFits, ByNumber, Halves, ByHalving}
+
+begins : (a : List ℕ) (c : ℕ) (rest : List ℕ) → comesBefore a (a ++ (c ∷ rest)) ≡ true
+unfolding comesBefore
+begins [] c rest = refl
+begins (x ∷ a) c rest = rw (le-ltb (small x) (small x) (omega arith), eq-eqb (small x) (small x) refl) (begins a c rest)
+
+by-bytes : (front a b : List ℕ) (x y : ℕ) → small x < small y → comesBefore (front ++ (x ∷ a)) (front ++ (y ∷ b)) ≡ true
+unfolding comesBefore
+by-bytes [] a b x y h = rw (lt-ltb (small x) (small y) h)
+by-bytes (z ∷ front) a b x y h = rw (le-ltb (small z) (small z) (omega arith), eq-eqb (small z) (small z) refl) (by-bytes front a b x y h)
 
 pub order : Promised.Order
 order =
@@ -42,6 +53,8 @@ order =
       not-itself = λ a. Order.not-itself a a (reflexive a);
       through = Order.through;
       equal = Order.neither-exactly;
+      beginning = begins;
+      by-bytes = by-bytes;
     }
 
 -- neighbours that rise are all in order, and the other way round
@@ -59,6 +72,23 @@ strict-rise s front e f back q = by-first (strict-back front (subst Strict q s))
   by-first : Strict (e ∷ f ∷ back) → comesBefore (e .name) (f .name) ≡ true
   by-first (Sorting.first b t) = b f (head refl)
 
+-- the low byte of each place
+low-byte : (es : List Entry) (k : ℕ) → getD (placeBytes es) (2 * k) 0 < 256
+low-byte [] k = omega arith
+low-byte (e ∷ es) zero = omega arith
+low-byte (e ∷ es) (suc k) =
+    let two : 2 * suc k ≡ suc (suc (2 * k)) = omega arith in
+    rw two (low-byte es k)
+
+-- a place as its two bytes have it
+place-of : (es front : List Entry) (e : Entry) (back : List Entry) → ((f : Entry) → List·Memᴰ f es → f .place ≤ 65535) → es ≡ front ++ (e ∷ back)
+    → getD (placeBytes es) (2 * length front) 0 + 256 * getD (placeBytes es) (2 * length front + 1) 0 ≡ e .place
+unfolding placeIn
+place-of es front e back low q =
+    let inside : length front < length es = omega (arith, ap length q ∙ length-append front (e ∷ back)) in
+    ap (λ bytes. placeIn bytes (length front)) (sym (append-nil (placeBytes es))) ∙ place-in es [] (length front) e low inside
+    ∙ ap (λ (f : Entry). f .place) (ap (λ l. getD l (length front) e) q ∙ getD-append-seam front e back e)
+
 pub one-arrangement : OneArrangement
 one-arrangement table z =
     let l = laid table (good-table table z .1) in
@@ -70,6 +100,10 @@ one-arrangement table z =
       many = many;
       only = λ es r inside long.
           Sorting.only (rise-strict es r) (weak-all (recordsOf table) Sorting.nothing) (λ e m. kept (recordsOf table) [] (inl (inside e m))) (omega (arith, many, long));
+      places = λ front e back q. (
+        place-of (inOrder table) front e back (in-order-listed l .low) q,
+        low-byte (inOrder table) (length front),
+      );
     }
 
 pub one-answer : OneAnswer
@@ -237,6 +271,9 @@ built-fits farm house out after b c z =
       λ text flags allowance buf left r t q.
           false≢true (sym (Translations.misfits text farm house (index-of index) flags allowance buf left r t .0 q .1) ∙ fit),
     )
+
+pub by-number : ByNumber
+by-number index house = record { none = refl; one = λ n. rw (ne-eqb (suc n) 0 (λ e. omega arith)); nothing-to-fit = refl }
 
 -- halvings that are not needed change nothing
 module _ (table index name : List ℕ) where

@@ -6,7 +6,7 @@ use mathlib.Core.Logic.{_↔_}
 use Prim.Native.Nat.{ℕ, _+_, _≤_, _<_}
 use native.Mathlib.Omega.{arith}
 use lib.ListN.{length, take, drop}
-use Rattle.paper.specs.Answers.{in-farm, in-index, countedIn}
+use Rattle.paper.specs.Answers.{in-text, in-farm, in-index, countedIn}
 use Rattle.paper.specs.Refusals.{unknown-name, allowance-spent, bad-index}
 use Rattle.paper.specs.declared.Holder.{Holder}
 use Rattle.paper.specs.declared.Holder.the-variants.{Farm, House}
@@ -36,7 +36,7 @@ use Rattle.variables.proofs.Own.{Where, in-farm as found-in-farm, in-house as f
 use Rattle.variables.proofs.Unique.{found, unique, missed, unmet, same-sought, own}
 use Rattle.promises.proofs.LowNumbers.{not-by-check}
 use Rattle.promises.specs.Accepted.{isGood, isKnown}
-use Rattle.promises.specs.Lookups.{OneCheck, OneFound, OnePart, CheckAccepts, LookUpAccepts, CheckRefusals, LookUpRefusals, OverLength, Records, Good, Judges, HasIt, Known, Names, Finds, Hides, Misses, BadIndex, Through, Inside, Part}
+use Rattle.promises.specs.Lookups.{OneCheck, OneFound, OnePart, CheckAccepts, LookUpAccepts, CheckRefusals, LookUpRefusals, OverLength, Records, Good, Judges, HasIt, Known, Names, Finds, Hides, Misses, BadIndex, Refused, Through, Inside, Part}
 
 pub one-check : OneCheck
 one-check table r r′ c c′ = c .answer ∙ sym (c′ .answer)
@@ -196,6 +196,20 @@ module _ (farm house name : List ℕ) where
   inside-by (AllGood n) false e holder z q = omega arith
   inside-by (OneBad number holder at) f e h z q = omega arith
 
+  abbrev Bare : Found → Type 0
+  Bare r =
+      (foundNumber r ≡ 0 → ⊥) → (foundKind r ≡ 0) × (foundStart r ≡ 0) × (foundLength r ≡ 0)
+      × (foundNumber r ≡ unknown-name → (foundCounted r ≡ in-text) × (foundPlace r ≡ 0))
+
+  bare-in : (h : Holding) → Bare (F h)
+  bare-in nowhere n = (refl, refl, refl, λ _. (refl, refl))
+  bare-in (held holder e) n = absurd (n refl)
+
+  bare-by : (d : Judged) (f : Bool) → judged farm house ≡ d → Bare (G d f)
+  bare-by (AllGood n) true e = bare-in sought
+  bare-by (AllGood n) false e = λ _. (refl, refl, refl, λ z. absurd (omega arith))
+  bare-by (OneBad number holder at) f e = λ _. (refl, refl, refl, λ z. absurd (omega (arith, z, numbered number holder at e)))
+
   -- what holds of both tables and of the index, and something more
   module _ (given : Given) where
     abbrev Sound : Bool → Type 0 → Type 0
@@ -306,6 +320,10 @@ misses farm house given name r c =
 pub misfits : BadIndex
 misfits farm house given name r c =
     as-judged farm house name given (Misfits farm house name given) r (c .answer) (misfit-by farm house name given (judged farm house) (fits given house) refl refl)
+
+pub refused-bare : Refused
+refused-bare farm house given name r c =
+    as-judged farm house name given (Bare farm house name) r (c .answer) (bare-by farm house name (judged farm house) (fits given house) refl)
 
 pub through : Through
 unfolding lookedUp

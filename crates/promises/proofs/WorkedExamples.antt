@@ -49,7 +49,7 @@ use Rattle.arithmetic.specs.Values.{signed, sum, difference, product, quotient,
 use Rattle.promises.specs.Allowed.{Converts, Dates, Builds, LooksUp, Translates, Evaluates}
 use Rattle.promises.specs.Conversions as Numbers
 use Rattle.promises.specs.Dates.{Fit, fieldsIn, needed}
-use Rattle.promises.specs.Examples.{writes, gives, lacks, dates, mistakes, reads, refuses, translates, stops, evaluates, fails, finds, indexes, spares, through, misfits, leads, selfNaming, named-x, numbered-7, naming-a, letter-and-sign, sign-first, with-a-beginning, first-time, last-time, february-1900, march-1900, end-of-1999, end-of-2000, february-2000, Holds, All, examples}
+use Rattle.promises.specs.Examples.{writes, gives, lacks, dates, mistakes, reads, refuses, translates, stops, evaluates, fails, finds, indexes, spares, through, misfits, leads, selfNaming, named-x, numbered-7, naming-a, letter-and-sign, sign-first, with-a-beginning, shortest-last, first-time, last-time, february-1900, march-1900, end-of-1999, end-of-2000, february-2000, Holds, All, examples}
 use Rattle.promises.proofs.ConversionsKept as Conversions
 use Rattle.promises.proofs.DatesKept as DatesOf
 
@@ -261,6 +261,10 @@ beginning-first : Holds (indexes with-a-beginning 6 (8 ∷ 0 ∷ 0 ∷ 0 ∷ [])
 unfolding built indexAfter checked scanned sound headed sized fitting nameAt valueAt nameByte small sameName entryAt entries sought inserted insertedAll comesBefore
 beginning-first out after r long c = built-row with-a-beginning out after r long c
 
+first-byte-first : Holds (indexes shortest-last 6 (13 ∷ 0 ∷ 6 ∷ 0 ∷ 0 ∷ 0 ∷ []) 0)
+unfolding built indexAfter checked scanned sound headed sized fitting nameAt valueAt nameByte small sameName entryAt entries sought inserted insertedAll comesBefore
+first-byte-first out after r long c = built-row shortest-last out after r long c
+
 no-entry : Holds (indexes [] 0 [] 0)
 unfolding built indexAfter checked scanned sound headed sized fitting nameAt valueAt nameByte small sameName entryAt entries sought inserted insertedAll comesBefore
 no-entry out after r long c = built-row [] out after r long c
@@ -399,4 +403,4 @@ four-bytes buf after r long c = mistakes-row (0 ∷ 0 ∷ 0 ∷ 0 ∷ []) (bytes
 
 -- the table, whole
 pub worked-examples : All examples
-worked-examples = (p1, (p2, (p3, (p4, (p5, (p6, (p7, (p8, (p9, (p10, (p11, (p12, (p13, (p13-farm, (p14, (p15, (without-a-zero-byte, (lacks-a-character, (with-a-zero-byte, (lacks-its-zero-byte, (a-byte-stays, (empty-text, (string-hides, (integer-hides, (integer-counts, (string-counts-not, (found-in-the-farm, (found-in-the-house, (sign-before-letter, (beginning-first, (no-entry, (a-byte-short, (both-through, (sign-found, (letter-found, (entries-exchanged, (longer-index, (macro-of-the-house, (macro-of-the-farm, (macro-spends-two, (farm-told-first, (house-told, (names-itself-thrice, (names-itself, (names-itself-behind, (zero-divisor-unread, (first-date, (last-date, (day-in-2000, (last-of-february, (first-of-march, (day-366, (day-365, (percent-signs, (percent-sign-left, (small-letters, (half-a-name, (room-too-small, (empty-format, (four-bytes, tt))))))))))))))))))))))))))))))))))))))))))))))))))))))))))))
+worked-examples = (p1, (p2, (p3, (p4, (p5, (p6, (p7, (p8, (p9, (p10, (p11, (p12, (p13, (p13-farm, (p14, (p15, (without-a-zero-byte, (lacks-a-character, (with-a-zero-byte, (lacks-its-zero-byte, (a-byte-stays, (empty-text, (string-hides, (integer-hides, (integer-counts, (string-counts-not, (found-in-the-farm, (found-in-the-house, (sign-before-letter, (beginning-first, (first-byte-first, (no-entry, (a-byte-short, (both-through, (sign-found, (letter-found, (entries-exchanged, (longer-index, (macro-of-the-house, (macro-of-the-farm, (macro-spends-two, (farm-told-first, (house-told, (names-itself-thrice, (names-itself, (names-itself-behind, (zero-divisor-unread, (first-date, (last-date, (day-in-2000, (last-of-february, (first-of-march, (day-366, (day-365, (percent-signs, (percent-sign-left, (small-letters, (half-a-name, (room-too-small, (empty-format, (four-bytes, tt)))))))))))))))))))))))))))))))))))))))))))))))))))))))))))))

@@ -1,4 +1,4 @@
--- The paper's worked examples as one table, and what it is for a row to hold: of every answer that a contract allows.
+-- The worked examples as one table, the paper's and some more, and what it is for a row to hold: of every answer that a contract allows.
 use mathlib.Core.Path.{_≡_}
 use mathlib.Core.Bool.{false}
 use mathlib.Core.List.{List, [], _∷_, _++_}
@@ -147,6 +147,10 @@ sign-first = 7 ∷ 0 ∷ 0 ∷ 0 ∷ []
 abbrev pub with-a-beginning : List ℕ
 with-a-beginning = 86 ∷ 82 ∷ 0 ∷ 2 ∷ 1 ∷ bytes "abx" ++ (86 ∷ 82 ∷ 0 ∷ 1 ∷ 1 ∷ bytes "ay")
 
+-- three records, empty strings: c, bA and aB. The first bytes decide, and not the lengths
+abbrev pub shortest-last : List ℕ
+shortest-last = 86 ∷ 82 ∷ 0 ∷ 1 ∷ 0 ∷ bytes "c" ++ (86 ∷ 82 ∷ 0 ∷ 2 ∷ 0 ∷ bytes "bA" ++ (86 ∷ 82 ∷ 0 ∷ 2 ∷ 0 ∷ bytes "aB"))
+
 -- times of five bytes, by their days: 28 February 1900 in its last hundredth of a second and the next day in its first, the ends of 1999
 -- and of 2000, and 29 February 2000 at 12:34:56.78
 abbrev pub february-1900 : List ℕ
@@ -170,7 +174,7 @@ first-time = 0 ∷ 0 ∷ 0 ∷ 0 ∷ 0 ∷ []
 abbrev pub last-time : List ℕ
 last-time = 255 ∷ 255 ∷ 255 ∷ 255 ∷ 255 ∷ []
 
--- P1 to P15, P13 once over each table, and some more of the paper's table
+-- P1 to P15, P13 once over each table, some more of the paper's table, and rows for &28, two tables, an index and dates
 abbrev pub examples : List Row
 examples =
     -- P1
@@ -220,9 +224,11 @@ examples =
     ∷ fails "a+1" named-x numbered-7 1 not-an-integer in-text 0
     ∷ finds "A" named-x numbered-7 in-farm 0 string-kind (bytes "x")
     ∷ finds "A" [] numbered-7 in-house 0 integer-kind (7 ∷ 0 ∷ 0 ∷ 0 ∷ [])
-    -- an index: the sign before the letter, a beginning before what goes on, an empty one, and a room that is one too small
+    -- an index: the sign before the letter, a beginning before what goes on, the first byte before the length, an empty one, and a room that is
+    -- one too small
     ∷ indexes letter-and-sign 4 sign-first 0
     ∷ indexes with-a-beginning 6 (8 ∷ 0 ∷ 0 ∷ 0 ∷ []) 2
+    ∷ indexes shortest-last 6 (13 ∷ 0 ∷ 6 ∷ 0 ∷ 0 ∷ 0 ∷ []) 0
     ∷ indexes [] 0 [] 0
     ∷ spares letter-and-sign 3 4
     -- through it, both names; with its entries exchanged, or longer, it is refused, before a name that is unknown and where none is looked up

@@ -5,7 +5,7 @@ use mathlib.Core.List.{List, [], map, flatten, List·Memᴰ}
 use mathlib.Core.Logic.{_↔_}
 use Prim.Native.Nat.{ℕ, _+_, _≤_, _<_}
 use lib.ListN.{length, take, drop}
-use Rattle.paper.specs.Answers.{in-farm, in-index, countedIn}
+use Rattle.paper.specs.Answers.{in-text, in-farm, in-index, countedIn}
 use Rattle.paper.specs.declared.Holder.{Holder}
 use Rattle.paper.specs.Refusals.{unknown-name, over-length, bad-index, longest}
 use Rattle.records.specs.Records.{Entry, recordBytes, sameName}
@@ -115,6 +115,13 @@ BadIndex =
     → ((foundNumber r ≡ bad-index)
     ↔ ((checkNumber (checked farm) ≡ 0) × (checkNumber (checked house) ≡ 0) × (fits given house ≡ false)))
     × (foundNumber r ≡ bad-index → (foundCounted r ≡ in-index) × (foundPlace r ≡ 0))
+
+-- a refused look-up has no kind, start or length, and an unknown name's place is the name's start
+abbrev pub Refused : Type 0
+Refused =
+    (farm house : List ℕ) (given : Given) (name : List ℕ) (r : Found) → LooksUp farm house given name r → (foundNumber r ≡ 0 → ⊥)
+    → (foundKind r ≡ 0) × (foundStart r ≡ 0) × (foundLength r ≡ 0)
+    × (foundNumber r ≡ unknown-name → (foundCounted r ≡ in-text) × (foundPlace r ≡ 0))
 
 -- through an index that fits, every answer is that without one
 abbrev pub Through : Type 0

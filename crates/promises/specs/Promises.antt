@@ -75,6 +75,7 @@ pub record Promises : Type 0 where
   pub look-up-hides : Lookups.Hides
   pub look-up-misses : Lookups.Misses
   pub look-up-bad-index : Lookups.BadIndex
+  pub look-up-refused : Lookups.Refused
   pub look-up-through : Lookups.Through
   pub look-up-inside : Lookups.Inside
   pub look-up-value-tied : Ties.LookUpValue
@@ -92,6 +93,7 @@ pub record Promises : Type 0 where
   pub build-second-ask : Indexes.SecondAsk
   pub index-fits : Indexes.Fits
   pub built-fits : Indexes.BuiltFits
+  pub indexed-by-number : Indexes.ByNumber
   pub search-by-halving : Indexes.ByHalving
   -- `translate`
   pub translate-tied : Ties.Translate

@@ -2,8 +2,8 @@
 use crate::answers;
 use crate::slices;
 
-// How many bytes a case lends at most.
-pub const MOST: usize = 70000;
+// How many bytes a case lends at most: more than any translation needs.
+pub const MOST: usize = 330000;
 
 // How many bytes behind the room are watched too.
 const MARGIN: usize = 16;

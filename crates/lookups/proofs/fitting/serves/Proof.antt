@@ -17,14 +17,14 @@ returns c =
 returns-2 : tie.Need-returns-2
 returns-2 c =
     let m = c .before .before in
-    other-length _ (start m .args .index .now) (start m .pre) (m .mark-records .ensures .0) (c .if2 .taken)
+    other-length _ (start m .args .index .now) (start m .pre) (m .mark-records .ensures .0) (λ e. omega arith)
 
 returns-3 : tie.Need-returns-3
 returns-3 c =
     let e = c .before .before in
     let m = e .before .before in
     let few = e .before .if1 .left in
-    told _ (start m .args .index .now) (start m .pre) (m .mark-records .ensures .0) _ few (m .mark-records .ensures .1 few) (e .if2 .left)
+    told _ (start m .args .index .now) (start m .pre) (m .mark-records .ensures .0) _ few (m .mark-records .ensures .1 few) (omega arith)
     (λ k. omega (arith, m .before .before .shared-slice-known2 .given k)) (c .rises .ensures .0) (c .rises .ensures .1)
 
 pub serves-spec : {M : Type 1} → statement M
