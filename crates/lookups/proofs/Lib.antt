@@ -4,4 +4,5 @@ pub mod Shapes
 pub mod Rising
 pub mod Served
 pub mod Judging
+pub mod Handing
 pub mod Bounds

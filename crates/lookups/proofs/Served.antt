@@ -15,6 +15,7 @@ use Rattle.variables.proofs.Chain.{starts}
 use Rattle.variables.proofs.Good.{laid}
 use Rattle.variables.proofs.Unique.{apart}
 use Rattle.indexes.specs.Indexes.{placeBytes, inOrder, indexOf}
+use Rattle.indexes.proofs.Searching.{bytes-long}
 use Rattle.indexes.proofs.Sorting as Sorting
 use Rattle.indexes.proofs.Sorting.{Strict, among-these, kept, all-long, weak-all, strict-order, unlike, only}
 use Rattle.lookups.specs.inner.Fitting.{marked, withMarks, shapedIn, Rises, isGood}
@@ -25,10 +26,6 @@ use Rattle.lookups.proofs.Rising.{led, led-long, led-bytes, led-strict,
 
 abbrev pub allMarks : List ℕ → List ℕ
 allMarks table = withMarks noMarks (recordsOf table)
-
-pub placeBytes-long : (es : List Entry) → length (placeBytes es) ≡ 2 * length es
-placeBytes-long [] = refl
-placeBytes-long (e ∷ es) = omega (arith, placeBytes-long es)
 
 module _ (table index : List ℕ) (short : length table ≤ 65535) where
   all-low : {n : ℕ} → Shaped table n → Low (recordsOf table)
@@ -94,7 +91,7 @@ module _ (table index : List ℕ) (short : length table ≤ 65535) where
               count = n;
               counted = count-of s;
               few = l .few;
-              long = ap length whole ∙ placeBytes-long (inOrder table) ∙ ap (λ k. 2 * k) all;
+              long = ap length whole ∙ bytes-long (inOrder table) ∙ ap (λ k. 2 * k) all;
               rises = rw (whole, ← all) up;
             }
 

@@ -8,13 +8,14 @@ ghost use Rattle.variables.specs.inner.Keys.{matchAs};
 ghost use Rattle.lookups.specs.inner.Through.{soughtThrough};
 ghost use Rattle.references.specs.References.{kinded, matchedAs, referredBy};
 ghost use Rattle.references.specs.declared.Referred.the-variants as Referred;
-use lookups::find;
+use indexes::search;
 use paper::TOO_BIG;
 use reader::NO_LIMIT;
 use reader::Reading;
 use records::Variable;
 use records::kinds::Kind;
 use variables::Match;
+use variables::keys::find;
 
 // What a reference's content stands for.
 pub enum Referred {
@@ -49,7 +50,8 @@ fn as_matched(m: Match) -> Referred
     }
 }
 
-// The name path: a number that is too big is refused, and every other content is a name.
+// The name path: a number that is too big is refused, and every other content is a name. What the keys lead to is taken here, and not by way
+// of a function that looks at the index too: that would be a call and a copy more for each reference.
 fn as_name<'a>(
     number: u8,
     content: &[u8],
@@ -63,7 +65,13 @@ fn as_name<'a>(
     if number == TOO_BIG {
         return Referred::TooBig;
     }
-    as_matched(find(farm, house, keys, index, content))
+    match find(farm, house, keys, content) {
+        Match::Record(v) => {
+            let kind = v.kind;
+            by_kind(kind, v)
+        }
+        Match::Missing => as_matched(search(house, index, content)),
+    }
 }
 
 fn refusal_of(answer: Reading) -> u8

@@ -1,5 +1,5 @@
-// Variables: is a table good (here), what does a name mean in two of them (`both`), the keys that look-ups go by (`keys`), the lines that
-// a look-up passes over (`blocks`), and the notes that spare a check most of its look-ups (`notes`).
+// Variables: is a table good (here), are two of them, and where does a variable's value lie (`both`), the keys that look-ups go by (`keys`),
+// the lines that a look-up passes over (`blocks`), and the notes that spare a check most of its look-ups (`notes`).
 ghost use mathlib.Core.Path.{_≡_};
 ghost use Prim.Native.Nat.{_≤_};
 ghost use lib.ListN.{length};

@@ -1,28 +1,16 @@
 -- `find` meets its contract: what the keys lead to, and where they lead to nothing, what the index leads to.
 use mathlib.Core.List.{List}
-use mathlib.Core.Path.{_≡_, refl, sym, _∙_}
+use mathlib.Core.Path.{_≡_, sym, _∙_}
 use Prim.Native.Nat.{ℕ}
 use borrow.Author.Needs.{needs}
 use Rattle.paper.specs.declared.Holder.the-variants.{House}
-use Rattle.paper.proofs.Choice.{clash}
-use Rattle.records.specs.declared.Variable.{Variable}
-use Rattle.variables.specs.Tables.{Sought, absent, present}
-use Rattle.variables.specs.Holdings.{Holding, nowhere, held, heldIn, orElse}
-use Rattle.variables.specs.inner.Keys.{soughtBy, matchAs}
-use Rattle.variables.specs.declared.Match.the-variants.{Record, Missing}
-use Rattle.indexes.specs.inner.Halving.{searched, matchIn}
+use Rattle.variables.specs.Tables.{Sought}
+use Rattle.variables.specs.Holdings.{Holding, heldIn}
+use Rattle.variables.specs.inner.Keys.{soughtBy}
+use Rattle.indexes.specs.inner.Halving.{searched}
+use Rattle.lookups.proofs.Handing.{by-keys, by-index}
 use Rattle.lookups.proofs.find.Statement.{statement}
 use Rattle.lookups.proofs.find.Tie as tie
-
-module _ (farm house : List ℕ) where
-  by-keys : (h second : Holding) {v : Variable} → matchAs farm house h ≡ Record v → Record v ≡ matchAs farm house (orElse h second)
-  by-keys nowhere second e = clash (cc)
-  by-keys (held holder f) second e = sym e
-
-  by-index : (h : Holding) (s : Sought) → matchAs farm house h ≡ Missing → matchIn house s ≡ matchAs farm house (orElse h (heldIn House s))
-  by-index nowhere absent e = refl
-  by-index nowhere (present f) e = refl
-  by-index (held holder f) s e = clash (cc)
 
 -- where the keys were gone through
 module _ (c : tie.After-find) where

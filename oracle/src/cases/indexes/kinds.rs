@@ -10,7 +10,7 @@ type Kind = (&'static str, fn(&Met) -> bool);
 const BUILDING: [Kind; 11] = [
     ("no room at all", |met| met.is("no 1 ") && met.room == 0),
     ("a byte too few", |met| {
-        met.is("no 1 ") && met.is_small() && met.room + 1 == met.need()
+        met.is("no 1 ") && met.is_small() && met.room > 1 && met.room + 1 == met.need()
     }),
     ("just room enough", |met| {
         met.is("ok") && met.need() > 0 && met.room == met.need()

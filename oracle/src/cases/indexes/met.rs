@@ -107,14 +107,12 @@ impl Met {
         rank.filter(|_| through)
     }
 
-    /// Whether the name that was found has letters, each of them in another case than the record's.
+    /// Whether the name that was found has over three bytes, and each letter in its other case.
     pub fn is_in_other_case(&self, rank: usize) -> bool {
         let name = self.house_name(self.places()[rank]);
-        let mut letters = name
-            .iter()
-            .zip(&self.asked)
-            .filter(|(byte, _)| byte.is_ascii_alphabetic());
-        letters.clone().count() > 0 && letters.all(|(one, other)| one != other)
+        let mut bytes = name.iter().zip(&self.asked);
+        let is_other = |(one, other): (&u8, &u8)| one != other || !one.is_ascii_alphabetic();
+        name.len() > 3 && name != self.asked && bytes.all(is_other)
     }
 
     /// Whether a name was unknown in a table that has records, through an index.
