@@ -300,9 +300,10 @@ struct nos_answer nos_build_index(const uint8_t *table, size_t length, uint8_t *
  *
  * An index is for one table: it fits where nos_build_index gives these very bytes for the house table, no more and no fewer. Every call
  * judges that anew, as it judges the tables. So an index never changes an answer, and one that does not fit is never used; it saves time
- * where the house table is large, and none where that has a few dozen records. Build it again after every edit of the house table: it
- * is refused as soon as a record was added or taken out, changed its place, or got a name that comes elsewhere in the order. The farm's
- * table has no index, and nos_evaluate takes none.
+ * where the house table is large and few names are looked up in a call, and none where that table has a few dozen records; a text that
+ * names hundreds takes longer through it. Build it again after every edit of the house table: it is refused as soon as a record was added
+ * or taken out, changed its place, or got a name that comes elsewhere in the order. The farm's table has no index, and nos_evaluate takes
+ * none.
  *
  * All are judged before anything is read, even where nothing is named, or where the farm's table has the name. The first of these that
  * holds is the answer, so that an over-long house table comes before a bad farm's table:
