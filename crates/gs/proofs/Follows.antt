@@ -4,7 +4,8 @@ use mathlib.Core.List.{List, [], _∷_}
 use Prim.Native.Nat.{ℕ, suc, _+_, _-_, _≤_}
 use native.Mathlib.Omega.{arith}
 use lib.ListN.{length}
-use Rattle.paper.specs.Traces.{asks, spends, bytes, run, onward}
+use Rattle.paper.specs.Refusals.{too-big, unknown-name, code-over-255}
+use Rattle.paper.specs.Traces.{Trace, asks, spends, bytes, refused, run, onward}
 use Rattle.records.specs.Kinds.{pattern}
 use Rattle.variables.specs.Names.{Meaning}
 use Rattle.forms.specs.Calls.{decimalOf}
@@ -12,7 +13,7 @@ use Rattle.variables.specs.Holdings.{partOf}
 use Rattle.gs.specs.Readings.{Expand, givesAll, wholeText, expands}
 use Rattle.gs.specs.inner.Steps.{Laid, Came, came-going, came-refused, Read, read-ended, read-refused, pieceOf, progressOf}
 use Rattle.references.specs.declared.Referred.{Referred}
-use Rattle.references.specs.declared.Referred.the-variants.{Number, TooBig, Unknown, Text, Integer, Macro}
+use Rattle.references.specs.declared.Referred.the-variants.{Number, CodeOver255, TooBig, Unknown, Text, Integer, Macro}
 use Rattle.gs.specs.declared.steps.Progress.{Progress}
 use Rattle.gs.specs.declared.steps.Progress.the-variants.{Going, Refused}
 use Rattle.gs.specs.declared.steps.Expanded.{Expanded}
@@ -31,19 +32,23 @@ module _ (farm house : List ℕ) (referred : Referred) (name : List ℕ) (left p
     number-gives b after e laid =
         subst (λ r. Came (pieceOf farm house expand r name place) left to out after (Going (record { to = to + 1; left = left }))) (sym e) (number-from b after laid)
 
-    too-big-from : Came (pieceOf farm house expand TooBig name place) left to out out (Refused 4 place)
+    -- what is refused for what it stands for, whatever is left
+    refused-from : (k : Referred) (number : ℕ) → ((rest : Trace) → run (pieceOf farm house expand k name place rest) left ≡ refused number place)
+        → (r : Progress) → referred ≡ k → r ≡ Refused number place → Gives out r
+    refused-from k number runs r e s =
+        subst₂ (λ k r. Came (pieceOf farm house expand k name place) left to out out r) (sym e) (sym s) (came-refused number place refl runs)
+
+    pub over-gives : (r : Progress) → referred ≡ CodeOver255 → r ≡ Refused code-over-255 place → Gives out r
     unfolding pieceOf
-    too-big-from = came-refused 4 place refl (λ rest. refl)
+    over-gives = refused-from CodeOver255 code-over-255 (λ rest. refl)
 
-    pub too-big-gives : (r : Progress) → referred ≡ TooBig → r ≡ Refused 4 place → Gives out r
-    too-big-gives r e s = subst₂ (λ k r. Came (pieceOf farm house expand k name place) left to out out r) (sym e) (sym s) too-big-from
-
-    unknown-from : Came (pieceOf farm house expand Unknown name place) left to out out (Refused 10 place)
+    pub too-big-gives : (r : Progress) → referred ≡ TooBig → r ≡ Refused too-big place → Gives out r
     unfolding pieceOf
-    unknown-from = came-refused 10 place refl (λ rest. refl)
+    too-big-gives = refused-from TooBig too-big (λ rest. refl)
 
-    pub unknown-gives : (r : Progress) → referred ≡ Unknown → r ≡ Refused 10 place → Gives out r
-    unknown-gives r e s = subst₂ (λ k r. Came (pieceOf farm house expand k name place) left to out out r) (sym e) (sym s) unknown-from
+    pub unknown-gives : (r : Progress) → referred ≡ Unknown → r ≡ Refused unknown-name place → Gives out r
+    unfolding pieceOf
+    unknown-gives = refused-from Unknown unknown-name (λ rest. refl)
 
     text-from : (v : Variable) (after : List ℕ) (r : Progress)
         → Came (λ rest. asks name (spends place (givesAll (partOf farm house v) rest))) left to out after r → Came (pieceOf farm house expand (Text v) name place) left to out after r

@@ -2,12 +2,12 @@
 use mathlib.Core.Path.{_≡_, refl, ap, subst}
 use mathlib.Core.Bool.{Bool, true, false}
 use mathlib.Core.List.{List, [], _∷_, List·Memᴰ, Memᴰ·append-left}
-use Prim.Native.Nat.{ℕ, zero, suc, _+_, _-_, _*_, _%_, _≤_}
+use Prim.Native.Nat.{ℕ, zero, suc, _+_, _-_, _*_, _≤_}
 use native.Mathlib.Omega.{arith}
 use lib.Dec.{ltb, eqb}
 use lib.ListN.{length, take, drop, length-append, length-take}
 use Rattle.paper.specs.Answers.{Answer}
-use Rattle.paper.specs.Refusals.{no-room, too-big, allowance-spent, over-length, longest, bad-index}
+use Rattle.paper.specs.Refusals.{no-room, too-big, allowance-spent, over-length, longest, bad-index, overCode}
 use Rattle.paper.specs.Traces.{Reference, Trace, ended, faults, gives, asks, spends, enters, bytes, Run, finished, refused, run, runPlace, fit, Ending, done, faulted, beyond, ending, reached, lookUps, allowed}
 use Rattle.paper.specs.declared.faults.Fault.{Fault}
 use Rattle.paper.proofs.Choice.{clash, either}
@@ -106,7 +106,8 @@ module _ (expand : Expand) (pays : Paid expand) (name : List ℕ) (place n : ℕ
 
   content-short : (names : List ℕ → Meaning) (r : Reading) → Fitting (names name) → Short (suc n) (contentGives names expand r name place rest)
   unfolding contentGives
-  content-short names (Value v) f = short-gives n (v .value % 256) rest l
+  content-short names (Value v) f =
+      either (Short (suc n)) (overCode (v .value)) (λ _. short-faults (suc n) _ place) (λ _. short-gives n (v .value) rest l)
   content-short names (Refused number at) f =
       either (Short (suc n)) (eqb number too-big) (λ _. short-faults (suc n) _ place)
       (λ _. short-asks (suc n) name (nameGives expand (names name) name place rest)

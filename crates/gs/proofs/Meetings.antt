@@ -2,12 +2,12 @@
 use mathlib.Core.Path.{refl}
 use mathlib.Core.Bool.{true}
 use mathlib.Core.List.{List, [], _∷_, List·Memᴰ, Memᴰ·cast}
-use Prim.Native.Nat.{ℕ, zero, suc, _-_, _%_, _≤_}
+use Prim.Native.Nat.{ℕ, zero, suc, _-_, _≤_}
 use native.Mathlib.Omega.{arith}
 use native.Mathlib.Decide.{decLe}
 use lib.Dec.{eqb}
 use lib.ListN.{length, take, drop}
-use Rattle.paper.specs.Refusals.{too-big, bad-code, bad-string, bad-reference, unknown-name, too-deep}
+use Rattle.paper.specs.Refusals.{too-big, bad-code, bad-string, bad-reference, unknown-name, too-deep, code-over-255, overCode}
 use Rattle.paper.specs.Traces.{faultNumber, Reference, Trace, faults, gives, asks, spends, enters}
 use Rattle.paper.specs.declared.faults.Fault.{Fault}
 use Rattle.paper.proofs.Choice.{either}
@@ -75,7 +75,9 @@ module _ (expand : Expand) (m : Meets expand) (name : List ℕ) (place size : �
 
   content-met : (names : List ℕ → Meaning) (r : Reading) → Met size (contentGives names expand r name place rest)
   unfolding contentGives
-  content-met names (Value v) = met-gives size (v .value % 256) rest l
+  content-met names (Value v) =
+      either (Met size) (overCode (v .value)) (λ _. met-faults size _ place (member code-over-255 translateNumbers refl) p)
+      (λ _. met-gives size (v .value) rest l)
   content-met names (Refused number at) =
       either (Met size) (eqb number too-big) (λ _. met-faults size _ place (member too-big translateNumbers refl) p)
       (λ _. met-asks size name (nameGives expand (names name) name place rest) (name-met (names name)))

@@ -8,7 +8,7 @@ use lib.Dec.{leb, eqb}
 use borrow.Author.Tests.{le-leb}
 use lib.ListN.{length, length-append}
 use lib.Seq.{sets, length-sets}
-use Rattle.paper.specs.Refusals.{too-big}
+use Rattle.paper.specs.Refusals.{too-big, overCode}
 use Rattle.paper.specs.Traces.{Trace, faults, gives, asks, spends, bytes, run}
 use Rattle.paper.specs.declared.faults.Fault.the-variants as Faults
 use Rattle.paper.proofs.Choice.{either}
@@ -32,7 +32,7 @@ use Rattle.references.specs.References.{kinded, matchedAs, referredAs, referred
 use Rattle.runs.specs.Output.{laidAt}
 use Rattle.gs.specs.inner.Steps.{Laid, Passes, pieceOf, lengthIn}
 use Rattle.references.specs.declared.Referred.{Referred}
-use Rattle.references.specs.declared.Referred.the-variants.{TooBig}
+use Rattle.references.specs.declared.Referred.the-variants.{Number, CodeOver255, TooBig}
 
 module _ (rest : Trace) where
   run-all : (bs : List ℕ) (left : ℕ) → run (givesAll bs rest) left ≡ run rest left
@@ -98,7 +98,12 @@ module _ (farm house name : List ℕ) (expand : Expand) (place : ℕ) (rest : Tr
   read-piece : (r : Reading) (h : Holding) → OwnHeld farm house h → namesOf farm house name ≡ inReading h
       → contentGives (namesOf farm house) expand r name place rest ≡ pieceOf farm house expand (referredAs r (handed farm house h)) name place rest
   unfolding contentGives pieceOf
-  read-piece (Value n) h o e = refl
+  read-piece (Value n) h o e = over (overCode (n .value))
+    where
+      over : (b : Bool)
+          → cond b (faults Faults.CodeOver255 place) (gives (n .value) rest) ≡ pieceOf farm house expand (cond b CodeOver255 (Number (n .value))) name place rest
+      over true = refl
+      over false = refl
   read-piece (Refused number at) h o e = big (eqb number too-big)
     where
       big : (b : Bool)
@@ -126,7 +131,7 @@ module _ (farm house : List ℕ) (bytes : AllBytes farm house) where
       kind-small (kindOf (e .kind)) (variableAt holder (heldBy holder farm house) e) (bytes holder (e .place + 4))
 
   referred-small : (r : Reading) (h : Holding) → lengthIn (referredAs r (handed farm house h)) ≤ 255
-  referred-small (Value n) h = omega arith
+  referred-small (Value n) h = either (λ r. lengthIn r ≤ 255) (overCode (n .value)) (λ _. omega arith) (λ _. omega arith)
   referred-small (Refused number at) h = either (λ r. lengthIn r ≤ 255) (eqb number too-big) (λ _. omega arith) (λ _. variable-small h)
 
   pub value-small : (name : List ℕ) → lengthIn (referredIn farm house name) ≤ 255

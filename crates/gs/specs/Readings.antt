@@ -1,12 +1,12 @@
 -- The reading of a text as a trace, over what names mean.
 use mathlib.Core.Bool.{true, cond}
 use mathlib.Core.List.{List, [], _∷_}
-use Prim.Native.Nat.{ℕ, zero, suc, _-_, _%_}
+use Prim.Native.Nat.{ℕ, zero, suc, _-_}
 use lib.Dec.{eqb}
 use lib.ListN.{length, take, drop}
-use Rattle.paper.specs.Refusals.{too-big}
+use Rattle.paper.specs.Refusals.{too-big, overCode}
 use Rattle.paper.specs.Traces.{Trace, ended, faults, gives, asks, spends, enters}
-use Rattle.paper.specs.declared.faults.Fault.the-variants.{TooBig, UnknownName, TooDeep}
+use Rattle.paper.specs.declared.faults.Fault.the-variants.{TooBig, UnknownName, TooDeep, CodeOver255}
 use Rattle.forms.specs.Calls.{decimalOf}
 use Rattle.reader.specs.Reading.{reading, no-limit}
 use Rattle.reader.specs.declared.Reading.the-variants.{Value, Refused}
@@ -38,9 +38,9 @@ nameGives expand (integer-of value) name place rest = spends place (givesAll (de
 nameGives expand (macro-of value) name place rest = expand name place value rest
 
 module _ (names : List ℕ → Meaning) where
-  -- a reference's content: a value gives one byte, its remainder by 256; too big is refused; any other refusal makes it a name
+  -- a reference's content: a value gives one byte, and over 255 it is refused; too big is refused; any other refusal makes it a name
   unfoldable pub contentGives : Expand → Read → List ℕ → ℕ → Trace → Trace
-  contentGives expand (Value n) name place rest = gives (n .value % 256) rest
+  contentGives expand (Value n) name place rest = cond (overCode (n .value)) (faults CodeOver255 place) (gives (n .value) rest)
   contentGives expand (Refused number at) name place rest =
       let asked = asks name (nameGives expand (names name) name place rest) in
       cond (eqb number too-big) (faults TooBig place) asked

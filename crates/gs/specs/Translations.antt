@@ -5,7 +5,7 @@ use Prim.Native.Nat.{ℕ}
 use lib.Dec.{eqb}
 use lib.ListN.{length, drop}
 use Rattle.paper.specs.Answers.{Answer, refusal, in-text, in-index, countedIn}
-use Rattle.paper.specs.Refusals.{no-room, too-big, bad-code, bad-string, bad-reference, unknown-name, too-deep, allowance-spent, over-length, bad-index}
+use Rattle.paper.specs.Refusals.{no-room, too-big, bad-code, bad-string, bad-reference, unknown-name, too-deep, allowance-spent, over-length, bad-index, code-over-255}
 use Rattle.paper.specs.Traces.{Trace, bytes, answer, allowed}
 use Rattle.variables.specs.Tables.{checkNumbers}
 use Rattle.variables.specs.Names.{namesOf}
@@ -59,7 +59,7 @@ translatedAnswer (BadIndex free) = refusal bad-index in-index 0 free
 
 -- the numbers that an answer can have: those of a table's check, that of an index, those that the reading meets, 1 last
 abbrev pub metNumbers : List ℕ
-metNumbers = bad-reference ∷ too-big ∷ unknown-name ∷ too-deep ∷ allowance-spent ∷ bad-code ∷ bad-string ∷ no-room ∷ []
+metNumbers = bad-reference ∷ too-big ∷ code-over-255 ∷ unknown-name ∷ too-deep ∷ allowance-spent ∷ bad-code ∷ bad-string ∷ no-room ∷ []
 
 abbrev pub translateNumbers : List ℕ
 translateNumbers = checkNumbers ++ (bad-index ∷ metNumbers)

@@ -14,6 +14,7 @@ use crate::steps::Expanded;
 use crate::steps::Progress;
 use crate::values;
 use paper::ALLOWANCE_SPENT;
+use paper::CODE_OVER_255;
 use paper::TOO_BIG;
 use paper::TOO_DEEP;
 use paper::UNKNOWN_NAME;
@@ -70,6 +71,7 @@ fn follow<'a>(
                 left: carried.left,
             })
         }
+        Referred::CodeOver255 => refused_reference(CODE_OVER_255, place),
         Referred::TooBig => refused_reference(TOO_BIG, place),
         Referred::Unknown => refused_reference(UNKNOWN_NAME, place),
         Referred::Text(v) => values::give(both::value_of(farm, house, v), carried, place, out),

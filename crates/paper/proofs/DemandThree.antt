@@ -11,7 +11,7 @@ use Rattle.paper.specs.Answers.{in-text, Answer, Grown}
 use Rattle.paper.specs.Refusals.{no-room, allowance-spent, over-length}
 use Rattle.paper.specs.Traces.{faultNumber, Trace, ended, faults, gives, asks, spends, enters, bytes, Run, finished, refused, onward, spending, run, runNumber, fit, answer, Ending, done, faulted, beyond, ending, Succeeds, reached, lookUps}
 use Rattle.paper.specs.declared.faults.Fault.{Fault}
-use Rattle.paper.specs.declared.faults.Fault.the-variants.{NoDigit, BadBase, TooBig, BadCode, BadString, BadReference, UnknownName, TooDeep, BadExpression, ZeroDivisor, NotAnInteger}
+use Rattle.paper.specs.declared.faults.Fault.the-variants.{NoDigit, BadBase, TooBig, BadCode, BadString, BadReference, UnknownName, TooDeep, BadExpression, ZeroDivisor, NotAnInteger, CodeOver255}
 use Rattle.paper.proofs.Choice.{below, not-below, either}
 
 -- no fault has the number of No room, of Allowance spent or of Over length
@@ -28,6 +28,7 @@ fault-number TooDeep = omega arith
 fault-number BadExpression = omega arith
 fault-number ZeroDivisor = omega arith
 fault-number NotAnInteger = omega arith
+fault-number CodeOver255 = omega arith
 
 -- a run that is refused has the number of a fault or of Allowance spent, never that of an accepted answer, of No room or of Over length
 record Numbered (r : Run) : Type 0 where

@@ -1,4 +1,4 @@
--- The refusal numbers by name, and the longest text or table that is read.
+-- The refusal numbers by name, the longest text or table that is read, and the greatest number of a reference.
 use mathlib.Core.Bool.{Bool}
 use mathlib.Core.List.{List}
 use Prim.Native.Nat.{ℕ}
@@ -65,6 +65,9 @@ bad-field = 19
 abbrev pub bad-index : ℕ
 bad-index = 20
 
+abbrev pub code-over-255 : ℕ
+code-over-255 = 21
+
 -- in bytes
 abbrev pub longest : ℕ
 longest = 65535
@@ -72,3 +75,10 @@ longest = 65535
 -- a text or a table that is over it, counted to the end of the lent slice
 abbrev pub tooLong : List ℕ → Bool
 tooLong bytes = ltb longest (length bytes)
+
+-- a number that a text refers to stands for one byte
+abbrev pub greatest-code : ℕ
+greatest-code = 255
+
+abbrev pub overCode : ℕ → Bool
+overCode number = ltb greatest-code number

@@ -6,9 +6,9 @@ use Prim.Native.Nat.{ℕ, zero, suc, _+_, _-_, min}
 use lib.Dec.{ltb}
 use lib.ListN.{length}
 use Rattle.paper.specs.Answers.{Answer, in-text, refusal}
-use Rattle.paper.specs.Refusals.{no-room, no-digit, bad-base, too-big, bad-code, bad-string, bad-reference, unknown-name, too-deep, allowance-spent, bad-expression, zero-divisor, not-an-integer}
+use Rattle.paper.specs.Refusals.{no-room, no-digit, bad-base, too-big, bad-code, bad-string, bad-reference, unknown-name, too-deep, allowance-spent, bad-expression, zero-divisor, not-an-integer, code-over-255}
 use Rattle.paper.specs.declared.faults.Fault.{Fault}
-use Rattle.paper.specs.declared.faults.Fault.the-variants.{NoDigit, BadBase, TooBig, BadCode, BadString, BadReference, UnknownName, TooDeep, BadExpression, ZeroDivisor, NotAnInteger}
+use Rattle.paper.specs.declared.faults.Fault.the-variants.{NoDigit, BadBase, TooBig, BadCode, BadString, BadReference, UnknownName, TooDeep, BadExpression, ZeroDivisor, NotAnInteger, CodeOver255}
 
 -- the paper's number of a fault
 abbrev pub faultNumber : Fault → ℕ
@@ -23,6 +23,7 @@ faultNumber TooDeep = too-deep
 faultNumber BadExpression = bad-expression
 faultNumber ZeroDivisor = zero-divisor
 faultNumber NotAnInteger = not-an-integer
+faultNumber CodeOver255 = code-over-255
 
 -- a macro's name, and the place of the "<" that names it
 pub record Reference : Type 0 where

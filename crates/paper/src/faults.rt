@@ -14,6 +14,7 @@ pub enum Fault {
     BadExpression,
     ZeroDivisor,
     NotAnInteger,
+    CodeOver255,
 }
 
 impl Fault {
@@ -32,6 +33,7 @@ impl Fault {
             Fault::BadExpression => crate::BAD_EXPRESSION,
             Fault::ZeroDivisor => crate::ZERO_DIVISOR,
             Fault::NotAnInteger => crate::NOT_AN_INTEGER,
+            Fault::CodeOver255 => crate::CODE_OVER_255,
         }
     }
 }

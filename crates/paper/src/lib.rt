@@ -62,8 +62,13 @@ pub const BAD_FIELD: u8 = 19;
 
 pub const BAD_INDEX: u8 = 20;
 
+pub const CODE_OVER_255: u8 = 21;
+
 // The longest text or table that is read, in bytes.
 pub const LONGEST: usize = 65535;
+
+// The greatest number that a reference in a text can have: what it gives is one byte.
+pub const GREATEST_CODE: u32 = 255;
 
 // A number to be summed, and no branch.
 pub fn one_if(present: bool) -> usize

@@ -9,6 +9,7 @@ use Rattle.promises.proofs.TwoTablesKept as TwoTables
 use Rattle.promises.proofs.LookupsKept as Lookups
 use Rattle.promises.proofs.IndexesKept as Indexes
 use Rattle.promises.proofs.TranslationsKept as Translations
+use Rattle.promises.proofs.CodesKept as Codes
 use Rattle.promises.proofs.EvaluationsKept as Evaluations
 use Rattle.promises.proofs.DeterminedKept.{determined}
 
@@ -108,6 +109,9 @@ promises =
       translate-need = Translations.need;
       translate-spent = Translations.spent-comes;
       translate-second-ask = Translations.asked-again;
+      number-met = Codes.number-met;
+      number-alone = Codes.number-alone;
+      number-in-a-macro = Codes.number-in-a-macro;
       evaluate-tied = Contracts.evaluate;
       evaluate-one-answer = Evaluations.one-answer;
       evaluate-accepts = Evaluations.accepts;

@@ -8,9 +8,10 @@ pub mod ConversionsKept
 pub mod DatesKept
 pub mod ReadingsKept
 pub mod TwoTablesKept
-pub mod LowNumbers
+pub mod OtherNumbers
 pub mod LookupsKept
 pub mod TranslationsKept
+pub mod CodesKept
 pub mod IndexesKept
 pub mod EvaluationsKept
 pub mod DeterminedKept

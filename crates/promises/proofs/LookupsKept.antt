@@ -34,7 +34,7 @@ use Rattle.variables.proofs.Good.{Laid, laid, wholes}
 use Rattle.variables.proofs.Judging.{both-good, judged-so, both-are, refused}
 use Rattle.variables.proofs.Own.{Where, in-farm as found-in-farm, in-house as found-in-house, in-neither, sought-where}
 use Rattle.variables.proofs.Unique.{found, unique, missed, unmet, same-sought, own}
-use Rattle.promises.proofs.LowNumbers.{not-by-check}
+use Rattle.promises.proofs.OtherNumbers.{not-by-check}
 use Rattle.promises.specs.Accepted.{isGood, isKnown}
 use Rattle.promises.specs.Lookups.{OneCheck, OneFound, OnePart, CheckAccepts, LookUpAccepts, CheckRefusals, LookUpRefusals, OverLength, Records, Good, Judges, HasIt, Known, Names, Finds, Hides, Misses, BadIndex, Refused, Through, Inside, Part}
 

@@ -25,7 +25,7 @@ use Rattle.gs.specs.Translations.{readingOf, translatedBy, translatedOver, tran
 use Rattle.gs.specs.declared.Translated.{Translated}
 use Rattle.gs.proofs.Answers.{good-answer, long-text-answer, bad-index-answer, bad-table-answer, written-buffer, kept-buffer}
 use Rattle.gs.proofs.Limits.{translated-listed}
-use Rattle.promises.proofs.LowNumbers.{not-by-reading, not-by-check}
+use Rattle.promises.proofs.OtherNumbers.{not-by-reading, not-by-check}
 use Rattle.promises.specs.Accepted.{isTranslated}
 use Rattle.promises.specs.Allowed.{Translates}
 use Rattle.promises.specs.Translations.{OneAnswer, Accepts, Refusals, Refused, Kept, Bytes, judgedAnswer, ByReading, Accepted, OverLength, BadIndex, Through, Larger, NoRoom, Need, Spent, SecondAsk}

@@ -11,7 +11,7 @@ use lib.ListN.{length, drop}
 use Rattle.paper.specs.Answers.{Answer, in-text, in-house, in-farm, in-index}
 use Rattle.paper.specs.Bytes.{nameByte, wordByte}
 use Rattle.paper.specs.Layings.{terminator, roomFor, layingOf, convertedBy, convertedAnswer}
-use Rattle.paper.specs.Refusals.{no-room, bad-base, too-deep, allowance-spent, bad-table, bad-expression, not-an-integer, over-length, bad-field, bad-index}
+use Rattle.paper.specs.Refusals.{no-room, bad-base, too-big, bad-reference, unknown-name, too-deep, allowance-spent, bad-table, bad-expression, not-an-integer, over-length, bad-field, bad-index, code-over-255}
 use Rattle.paper.specs.Texts.{bytes}
 use Rattle.paper.specs.Traces as Traces
 use Rattle.forms.specs.Digits.{digits, enough}
@@ -49,7 +49,7 @@ use Rattle.arithmetic.specs.Values.{signed, sum, difference, product, quotient,
 use Rattle.promises.specs.Allowed.{Converts, Dates, Builds, LooksUp, Translates, Evaluates}
 use Rattle.promises.specs.Conversions as Numbers
 use Rattle.promises.specs.Dates.{Fit, fieldsIn, needed}
-use Rattle.promises.specs.Examples.{writes, gives, lacks, dates, mistakes, reads, refuses, translates, stops, evaluates, fails, finds, indexes, spares, through, misfits, leads, selfNaming, named-x, numbered-7, naming-a, letter-and-sign, sign-first, with-a-beginning, shortest-last, first-time, last-time, february-1900, march-1900, end-of-1999, end-of-2000, february-2000, Holds, All, examples}
+use Rattle.promises.specs.Examples.{Row, writes, gives, lacks, dates, mistakes, reads, refuses, translates, stops, evaluates, fails, finds, indexes, spares, through, misfits, leads, selfNaming, named-x, numbered-7, naming-a, named-256, over-in-a-macro, letter-and-sign, sign-first, with-a-beginning, shortest-last, first-time, last-time, february-1900, march-1900, end-of-1999, end-of-2000, february-2000, Holds, All, examples}
 use Rattle.promises.proofs.ConversionsKept as Conversions
 use Rattle.promises.proofs.DatesKept as DatesOf
 
@@ -183,9 +183,59 @@ p11 : Holds (translates "\"a\"\"b\"" [] [] 0 3 (bytes "a\"b") 6 0)
 unfolding translated outAfter judged scanned sound headed sized fitting nameAt valueAt nameByte small sameName entryAt entries sought meant nameGives contentGives symbolGives symbolsFrom wholeText expands symbolAt active barred code coded punctuation toppedCode toppedSymbol referred closed quotedOther firstAt modeOf reading numbered inBase judgedReading digit string digits enough
 p11 out after r long c = translated-row "\"a\"\"b\"" [] [] 0 out after r long c
 
-p12 : Holds (translates "<321>" [] [] 0 1 (bytes "A") 5 0)
+-- P12 and its neighbours, the references to a number, in front of other rows
+number-references : (rows : List Row) → All rows → All (
+    stops "<321>" [] [] 0 1 code-over-255 in-text 0
+    ∷ translates "<65>" [] [] 0 1 (bytes "A") 4 0
+    ∷ translates "<255>" [] [] 0 1 (255 ∷ []) 5 0
+    ∷ stops "<256>" [] [] 0 1 code-over-255 in-text 0
+    ∷ translates "<&0FF>" [] [] 0 1 (255 ∷ []) 6 0
+    ∷ stops "<36_74>" [] [] 0 1 code-over-255 in-text 0
+    ∷ stops "<256>" [] named-256 1 1 code-over-255 in-text 0
+    ∷ stops "<256x>" [] named-256 1 1 unknown-name in-text 0
+    ∷ stops "<4294967295>" [] [] 0 1 code-over-255 in-text 0
+    ∷ stops "<4294967296>" [] [] 0 1 too-big in-text 0
+    ∷ stops "<256" [] [] 0 1 bad-reference in-text 0
+    ∷ stops "xy<m>" [] over-in-a-macro 2 9 code-over-255 in-text 2
+    ∷ rows)
 unfolding translated outAfter judged scanned sound headed sized fitting nameAt valueAt nameByte small sameName entryAt entries sought meant nameGives contentGives symbolGives symbolsFrom wholeText expands symbolAt active barred code coded punctuation toppedCode toppedSymbol referred closed quotedOther firstAt modeOf reading numbered inBase judgedReading digit string digits enough
-p12 out after r long c = translated-row "<321>" [] [] 0 out after r long c
+number-references rows others = (
+  translated-row "<321>" [] [] 0,
+  (
+    translated-row "<65>" [] [] 0,
+    (
+      translated-row "<255>" [] [] 0,
+      (
+        translated-row "<256>" [] [] 0,
+        (
+          translated-row "<&0FF>" [] [] 0,
+          (
+            translated-row "<36_74>" [] [] 0,
+            (
+              translated-row "<256>" [] named-256 1,
+              (
+                translated-row "<256x>" [] named-256 1,
+                (
+                  translated-row "<4294967295>" [] [] 0,
+                  (
+                    translated-row "<4294967296>" [] [] 0,
+                    (
+                      translated-row "<256" [] [] 0,
+                      (
+                        translated-row "xy<m>" [] over-in-a-macro 2,
+                        others,
+                      ),
+                    ),
+                  ),
+                ),
+              ),
+            ),
+          ),
+        ),
+      ),
+    ),
+  ),
+)
 
 p13 : Holds (translates "<A>b" [] named-x 1 2 (bytes "xb") 4 0)
 unfolding translated outAfter judged scanned sound headed sized fitting nameAt valueAt nameByte small sameName entryAt entries sought meant nameGives contentGives symbolGives symbolsFrom wholeText expands symbolAt active barred code coded punctuation toppedCode toppedSymbol referred closed quotedOther firstAt modeOf reading numbered inBase judgedReading digit string digits enough
@@ -403,4 +453,6 @@ four-bytes buf after r long c = mistakes-row (0 ∷ 0 ∷ 0 ∷ 0 ∷ []) (bytes
 
 -- the table, whole
 pub worked-examples : All examples
-worked-examples = (p1, (p2, (p3, (p4, (p5, (p6, (p7, (p8, (p9, (p10, (p11, (p12, (p13, (p13-farm, (p14, (p15, (without-a-zero-byte, (lacks-a-character, (with-a-zero-byte, (lacks-its-zero-byte, (a-byte-stays, (empty-text, (string-hides, (integer-hides, (integer-counts, (string-counts-not, (found-in-the-farm, (found-in-the-house, (sign-before-letter, (beginning-first, (first-byte-first, (no-entry, (a-byte-short, (both-through, (sign-found, (letter-found, (entries-exchanged, (longer-index, (macro-of-the-house, (macro-of-the-farm, (macro-spends-two, (farm-told-first, (house-told, (names-itself-thrice, (names-itself, (names-itself-behind, (zero-divisor-unread, (first-date, (last-date, (day-in-2000, (last-of-february, (first-of-march, (day-366, (day-365, (percent-signs, (percent-sign-left, (small-letters, (half-a-name, (room-too-small, (empty-format, (four-bytes, tt)))))))))))))))))))))))))))))))))))))))))))))))))))))))))))))
+worked-examples =
+    let others : All (drop 23 examples) = (p13, (p13-farm, (p14, (p15, (without-a-zero-byte, (lacks-a-character, (with-a-zero-byte, (lacks-its-zero-byte, (a-byte-stays, (empty-text, (string-hides, (integer-hides, (integer-counts, (string-counts-not, (found-in-the-farm, (found-in-the-house, (sign-before-letter, (beginning-first, (first-byte-first, (no-entry, (a-byte-short, (both-through, (sign-found, (letter-found, (entries-exchanged, (longer-index, (macro-of-the-house, (macro-of-the-farm, (macro-spends-two, (farm-told-first, (house-told, (names-itself-thrice, (names-itself, (names-itself-behind, (zero-divisor-unread, (first-date, (last-date, (day-in-2000, (last-of-february, (first-of-march, (day-366, (day-365, (percent-signs, (percent-sign-left, (small-letters, (half-a-name, (room-too-small, (empty-format, (four-bytes, tt))))))))))))))))))))))))))))))))))))))))))))))))) in
+    (p1, (p2, (p3, (p4, (p5, (p6, (p7, (p8, (p9, (p10, (p11, number-references (drop 23 examples) others)))))))))))

@@ -7,7 +7,7 @@ use Prim.Native.String.{String}
 use lib.IntN.{ℤ, pos, negℤ}
 use lib.ListN.{length, drop}
 use Rattle.paper.specs.Answers.{in-text, in-house, in-farm, in-index, refusal}
-use Rattle.paper.specs.Refusals.{no-room, bad-base, too-deep, allowance-spent, bad-table, bad-expression, not-an-integer, over-length, bad-field, bad-index}
+use Rattle.paper.specs.Refusals.{no-room, bad-base, too-big, bad-reference, unknown-name, too-deep, allowance-spent, bad-table, bad-expression, not-an-integer, over-length, bad-field, bad-index, code-over-255}
 use Rattle.paper.specs.Layings.{convertedAnswer}
 use Rattle.paper.specs.declared.layings.Converted.{Converted}
 use Rattle.reader.specs.Reading.{no-limit, readNumber, readPlace, readValue}
@@ -136,6 +136,14 @@ numbered-7 = 86 ∷ 82 ∷ 1 ∷ 1 ∷ 4 ∷ bytes "a" ++ (7 ∷ 0 ∷ 0 ∷ 0 �
 abbrev pub naming-a : List ℕ
 naming-a = 86 ∷ 82 ∷ 2 ∷ 1 ∷ 4 ∷ bytes "m<a>!"
 
+-- one record: the string 256, whose value is `x`
+abbrev pub named-256 : List ℕ
+named-256 = 86 ∷ 82 ∷ 0 ∷ 3 ∷ 1 ∷ bytes "256x"
+
+-- two records: the macro m, whose value is `!<n>`, and the macro n, whose value is `<256>`
+abbrev pub over-in-a-macro : List ℕ
+over-in-a-macro = 86 ∷ 82 ∷ 2 ∷ 1 ∷ 4 ∷ bytes "m!<n>" ++ (86 ∷ 82 ∷ 2 ∷ 1 ∷ 5 ∷ bytes "n<256>")
+
 -- two records: the string A, whose value is `x`, and the string _, whose value is `y`. As a small letter the A comes behind the _
 abbrev pub letter-and-sign : List ℕ
 letter-and-sign = 86 ∷ 82 ∷ 0 ∷ 1 ∷ 1 ∷ bytes "Ax" ++ (86 ∷ 82 ∷ 0 ∷ 1 ∷ 1 ∷ bytes "_y")
@@ -174,7 +182,8 @@ first-time = 0 ∷ 0 ∷ 0 ∷ 0 ∷ 0 ∷ []
 abbrev pub last-time : List ℕ
 last-time = 255 ∷ 255 ∷ 255 ∷ 255 ∷ 255 ∷ []
 
--- P1 to P15, P13 once over each table, some more of the paper's table, and rows for &28, two tables, an index and dates
+-- P1 to P15, P12 with its neighbours, P13 once over each table, some more of the paper's table, and rows for &28, two tables, an index and
+-- dates
 abbrev pub examples : List Row
 examples =
     -- P1
@@ -200,7 +209,22 @@ examples =
     -- P11
     ∷ translates "\"a\"\"b\"" [] [] 0 3 (bytes "a\"b") 6 0
     -- P12
-    ∷ translates "<321>" [] [] 0 1 (bytes "A") 5 0
+    ∷ stops "<321>" [] [] 0 1 code-over-255 in-text 0
+    -- a number up to 255 is a byte, and the next one is refused, whatever its base
+    ∷ translates "<65>" [] [] 0 1 (bytes "A") 4 0
+    ∷ translates "<255>" [] [] 0 1 (255 ∷ []) 5 0
+    ∷ stops "<256>" [] [] 0 1 code-over-255 in-text 0
+    ∷ translates "<&0FF>" [] [] 0 1 (255 ∷ []) 6 0
+    ∷ stops "<36_74>" [] [] 0 1 code-over-255 in-text 0
+    -- a variable named 256 is not looked up; 256x is a name
+    ∷ stops "<256>" [] named-256 1 1 code-over-255 in-text 0
+    ∷ stops "<256x>" [] named-256 1 1 unknown-name in-text 0
+    -- the greatest number that the reader takes, and one more; and a reference that is bad
+    ∷ stops "<4294967295>" [] [] 0 1 code-over-255 in-text 0
+    ∷ stops "<4294967296>" [] [] 0 1 too-big in-text 0
+    ∷ stops "<256" [] [] 0 1 bad-reference in-text 0
+    -- in a macro that a macro names: the place is that of the outermost "<"
+    ∷ stops "xy<m>" [] over-in-a-macro 2 9 code-over-255 in-text 2
     -- P13, over the house's table and over the farm's
     ∷ translates "<A>b" [] named-x 1 2 (bytes "xb") 4 0
     ∷ translates "<A>b" named-x [] 1 2 (bytes "xb") 4 0

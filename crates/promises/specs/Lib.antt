@@ -11,6 +11,7 @@ pub mod TwoTables
 pub mod Lookups
 pub mod Indexes
 pub mod Translations
+pub mod Codes
 pub mod Evaluations
 pub mod Determined
 pub mod Promises

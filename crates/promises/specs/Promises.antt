@@ -8,6 +8,7 @@ use Rattle.promises.specs.TwoTables as TwoTables
 use Rattle.promises.specs.Lookups as Lookups
 use Rattle.promises.specs.Indexes as Indexes
 use Rattle.promises.specs.Translations as Translations
+use Rattle.promises.specs.Codes as Codes
 use Rattle.promises.specs.Evaluations as Evaluations
 use Rattle.promises.specs.Determined.{Determined}
 
@@ -113,6 +114,10 @@ pub record Promises : Type 0 where
   pub translate-need : Translations.Need
   pub translate-spent : Translations.Spent
   pub translate-second-ask : Translations.SecondAsk
+  -- a number that a text refers to
+  pub number-met : Codes.Met
+  pub number-alone : Codes.Alone
+  pub number-in-a-macro : Codes.InAMacro
   -- `evaluate`
   pub evaluate-tied : Ties.Evaluate
   pub evaluate-one-answer : Evaluations.OneAnswer

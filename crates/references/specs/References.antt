@@ -1,9 +1,9 @@
 -- What a content stands for: a number, or what a look-up answers, whether that goes through the tables or by some keys and an index.
 use mathlib.Core.Bool.{true, cond}
 use mathlib.Core.List.{List}
-use Prim.Native.Nat.{ℕ, _%_}
+use Prim.Native.Nat.{ℕ}
 use lib.Dec.{eqb}
-use Rattle.paper.specs.Refusals.{too-big}
+use Rattle.paper.specs.Refusals.{too-big, overCode}
 use Rattle.reader.specs.Reading.{reading, no-limit}
 use Rattle.reader.specs.declared.Reading.{Reading}
 use Rattle.reader.specs.declared.Reading.the-variants.{Value, Refused}
@@ -16,7 +16,7 @@ use Rattle.records.specs.declared.Variable.{Variable}
 use Rattle.records.specs.declared.kinds.Kind.{Kind}
 use Rattle.records.specs.declared.kinds.Kind.the-variants as Kinds
 use Rattle.references.specs.declared.Referred.{Referred}
-use Rattle.references.specs.declared.Referred.the-variants.{Number, TooBig, Unknown, Text, Integer, Macro}
+use Rattle.references.specs.declared.Referred.the-variants.{Number, CodeOver255, TooBig, Unknown, Text, Integer, Macro}
 
 -- what a look-up answers, as a reference
 abbrev pub kinded : Kind → Variable → Referred
@@ -28,9 +28,9 @@ abbrev pub matchedAs : Match → Referred
 matchedAs (Record v) = kinded (v .kind) v
 matchedAs Missing = Unknown
 
--- a value becomes a byte, its remainder by 256; too big is refused; any other refusal makes it a name
+-- a value becomes a byte, and over 255 it is refused; too big is refused; any other refusal makes it a name
 abbrev pub referredAs : Reading → Referred → Referred
-referredAs (Value n) named = Number (n .value % 256)
+referredAs (Value n) named = cond (overCode (n .value)) CodeOver255 (Number (n .value))
 referredAs (Refused number at) named = cond (eqb number too-big) TooBig named
 
 -- a content, where so much is found of it as a name

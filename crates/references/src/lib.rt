@@ -9,6 +9,7 @@ ghost use Rattle.lookups.specs.inner.Through.{soughtThrough};
 ghost use Rattle.references.specs.References.{kinded, matchedAs, referredBy};
 ghost use Rattle.references.specs.declared.Referred.the-variants as Referred;
 use indexes::search;
+use paper::GREATEST_CODE;
 use paper::TOO_BIG;
 use reader::NO_LIMIT;
 use reader::Reading;
@@ -20,6 +21,7 @@ use variables::keys::find;
 // What a reference's content stands for.
 pub enum Referred {
     Number(u8),
+    CodeOver255,
     TooBig,
     Unknown,
     Text(Variable),
@@ -83,8 +85,8 @@ fn refusal_of(answer: Reading) -> u8
     }
 }
 
-// What the content of a reference stands for, over two tables, some keys and an index: a value becomes a byte, otherwise it goes the name
-// path.
+// What the content of a reference stands for, over two tables, some keys and an index: a value becomes a byte where it is one, otherwise it
+// goes the name path.
 pub fn resolve<'a>(
     content: &[u8],
     farm: &'a [u8],
@@ -98,5 +100,8 @@ pub fn resolve<'a>(
     let Reading::Value(n) = answer else {
         return as_name(refusal_of(answer), content, farm, house, keys, index);
     };
-    Referred::Number((n.value % 256) as u8)
+    if n.value > GREATEST_CODE {
+        return Referred::CodeOver255;
+    }
+    Referred::Number(n.value as u8)
 }

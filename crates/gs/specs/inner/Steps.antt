@@ -14,7 +14,7 @@ use Rattle.records.specs.declared.kinds.Kind.the-variants as Kinds
 use Rattle.variables.specs.Holdings.{partOf}
 use Rattle.gs.specs.Readings.{Expand, givesAll}
 use Rattle.references.specs.declared.Referred.{Referred}
-use Rattle.references.specs.declared.Referred.the-variants.{Number, TooBig, Unknown, Text, Integer, Macro}
+use Rattle.references.specs.declared.Referred.the-variants.{Number, CodeOver255, TooBig, Unknown, Text, Integer, Macro}
 use Rattle.gs.specs.declared.steps.Progress.{Progress}
 use Rattle.gs.specs.declared.steps.Progress.the-variants as Progresses
 use Rattle.gs.specs.declared.steps.Expanded.{Expanded}
@@ -49,6 +49,7 @@ pub data Read (trace : Trace) (size left to : ℕ) (out after : List ℕ) : Expa
 -- the piece of a reading that a reference makes
 unfoldable pub pieceOf : List ℕ → List ℕ → Expand → Referred → List ℕ → ℕ → Trace → Trace
 pieceOf farm house expand (Number byte) name place rest = gives byte rest
+pieceOf farm house expand CodeOver255 name place rest = faults Faults.CodeOver255 place
 pieceOf farm house expand TooBig name place rest = faults Faults.TooBig place
 pieceOf farm house expand Unknown name place rest = asks name (faults Faults.UnknownName place)
 pieceOf farm house expand (Text v) name place rest = asks name (spends place (givesAll (partOf farm house v) rest))
@@ -58,6 +59,7 @@ pieceOf farm house expand (Macro v) name place rest = asks name (expand name pla
 -- how long the value of a reference is
 abbrev pub lengthIn : Referred → ℕ
 lengthIn (Number byte) = 0
+lengthIn CodeOver255 = 0
 lengthIn TooBig = 0
 lengthIn Unknown = 0
 lengthIn (Text v) = v .length

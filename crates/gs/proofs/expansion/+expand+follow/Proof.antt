@@ -20,7 +20,7 @@ use Rattle.records.specs.declared.Variable.{Variable}
 use Rattle.gs.proofs.Pieces.{laid-at, value-small}
 use Rattle.gs.proofs.PlainRuns.{at-run}
 use Rattle.symbols.proofs.Places.{Stands, quoteOf, symbol-stands}
-use Rattle.gs.proofs.Follows.{number-gives, too-big-gives, unknown-gives, text-gives, integer-gives, too-deep-gives, spent-gives, value-gives}
+use Rattle.gs.proofs.Follows.{number-gives, over-gives, too-big-gives, unknown-gives, text-gives, integer-gives, too-deep-gives, spent-gives, value-gives}
 use Rattle.symbols.specs.declared.forms.Mode.{Mode}
 use Rattle.symbols.specs.declared.forms.Symbol.{Symbol}
 use Rattle.gs.specs.declared.steps.Expanded.{Expanded}
@@ -350,14 +350,14 @@ follow-returns t c name =
     let a = c .before .before .before .before .before .before .before .before .before .before .args in
     let names = namesOf (a .farm .now) (a .house .now) in
     let k = c .before .before .before .referred4 .given in
-    too-deep-gives (a .farm .now) (a .house .now) (a .referred) name (a .carried .left) (a .place) (a .carried .to) (a .out .now) names (a .levels) (k .0 .0) (k .1) _ (c .before .if1 .taken) (c .refused-reference3 .ensures)
+    too-deep-gives (a .farm .now) (a .house .now) (a .referred) name (a .carried .left) (a .place) (a .carried .to) (a .out .now) names (a .levels) (k .0 .0) (k .1) _ (c .before .if1 .taken) (c .refused-reference4 .ensures)
 
 follow-returns-2 : (t : ℕ) → follow-lts.Need-returns-2 (follow-calls t) (follow-at t) follow.Post
 follow-returns-2 t c name =
     let a = c .before .before .before .before .before .before .before .before .before .before .before .before .args in
     let names = namesOf (a .farm .now) (a .house .now) in
     let k = c .before .before .before .before .before .referred4 .given in
-    spent-gives (a .farm .now) (a .house .now) (a .referred) name (a .carried .left) (a .place) (a .carried .to) (a .out .now) names (a .levels) (k .0 .0) (k .1) _ (c .before .before .before .if1 .left) (c .before .if2 .taken) (c .refused-reference4 .ensures)
+    spent-gives (a .farm .now) (a .house .now) (a .referred) name (a .carried .left) (a .place) (a .carried .to) (a .out .now) names (a .levels) (k .0 .0) (k .1) _ (c .before .before .before .if1 .left) (c .before .if2 .taken) (c .refused-reference5 .ensures)
 
 follow-expand-requires : (t : ℕ) → follow-lts.Need-expand-requires (follow-calls t) (follow-at t) follow.Post
 follow-expand-requires t c κs =
@@ -376,30 +376,36 @@ follow-returns-4 : (t : ℕ) → follow-lts.Need-returns-4 (follow-calls t) (fol
 follow-returns-4 t c name =
     let a = c .before .before .before .before .before .before .before .before .args in
     let names = namesOf (a .farm .now) (a .house .now) in
-    too-big-gives (a .farm .now) (a .house .now) (a .referred) name (a .carried .left) (a .place) (a .carried .to) (a .out .now) (expands names (a .levels)) _ (c .before .enum-told .given .1) (c .refused-reference .ensures)
+    over-gives (a .farm .now) (a .house .now) (a .referred) name (a .carried .left) (a .place) (a .carried .to) (a .out .now) (expands names (a .levels)) _ (c .before .enum-told .given .1) (c .refused-reference .ensures)
 
 follow-returns-5 : (t : ℕ) → follow-lts.Need-returns-5 (follow-calls t) (follow-at t) follow.Post
 follow-returns-5 t c name =
     let a = c .before .before .before .before .before .before .before .before .args in
     let names = namesOf (a .farm .now) (a .house .now) in
-    unknown-gives (a .farm .now) (a .house .now) (a .referred) name (a .carried .left) (a .place) (a .carried .to) (a .out .now) (expands names (a .levels)) _ (c .before .enum-told2 .given .1) (c .refused-reference2 .ensures)
+    too-big-gives (a .farm .now) (a .house .now) (a .referred) name (a .carried .left) (a .place) (a .carried .to) (a .out .now) (expands names (a .levels)) _ (c .before .enum-told2 .given .1) (c .refused-reference2 .ensures)
 
 follow-returns-6 : (t : ℕ) → follow-lts.Need-returns-6 (follow-calls t) (follow-at t) follow.Post
 follow-returns-6 t c name =
-    let a = c .before .before .before .before .before .before .before .before .before .before .before .before .before .args in
+    let a = c .before .before .before .before .before .before .before .before .args in
     let names = namesOf (a .farm .now) (a .house .now) in
-    let k = c .before .before .before .before .before .before .referred2 .given in
-    text-gives (a .farm .now) (a .house .now) (a .referred) name (a .carried .left) (a .place) (a .carried .to) (a .out .now) (expands names (a .levels)) (k .0 .0) _ _ _ (k .1) (c .before .before .before .before .value-of .ensures) (c .before .before .give .ensures name)
+    unknown-gives (a .farm .now) (a .house .now) (a .referred) name (a .carried .left) (a .place) (a .carried .to) (a .out .now) (expands names (a .levels)) _ (c .before .enum-told3 .given .1) (c .refused-reference3 .ensures)
 
 follow-returns-7 : (t : ℕ) → follow-lts.Need-returns-7 (follow-calls t) (follow-at t) follow.Post
 follow-returns-7 t c name =
     let a = c .before .before .before .before .before .before .before .before .before .before .before .before .before .args in
     let names = namesOf (a .farm .now) (a .house .now) in
-    let k = c .before .before .before .before .before .before .referred3 .given in
-    integer-gives (a .farm .now) (a .house .now) (a .referred) name (a .carried .left) (a .place) (a .carried .to) (a .out .now) (expands names (a .levels)) (k .0 .0) _ _ _ (k .1) (c .before .before .before .before .value-of2 .ensures) (c .before .before .give-integer .ensures name)
+    let k = c .before .before .before .before .before .before .referred2 .given in
+    text-gives (a .farm .now) (a .house .now) (a .referred) name (a .carried .left) (a .place) (a .carried .to) (a .out .now) (expands names (a .levels)) (k .0 .0) _ _ _ (k .1) (c .before .before .before .before .value-of .ensures) (c .before .before .give .ensures name)
 
 follow-returns-8 : (t : ℕ) → follow-lts.Need-returns-8 (follow-calls t) (follow-at t) follow.Post
 follow-returns-8 t c name =
+    let a = c .before .before .before .before .before .before .before .before .before .before .before .before .before .args in
+    let names = namesOf (a .farm .now) (a .house .now) in
+    let k = c .before .before .before .before .before .before .referred3 .given in
+    integer-gives (a .farm .now) (a .house .now) (a .referred) name (a .carried .left) (a .place) (a .carried .to) (a .out .now) (expands names (a .levels)) (k .0 .0) _ _ _ (k .1) (c .before .before .before .before .value-of2 .ensures) (c .before .before .give-integer .ensures name)
+
+follow-returns-9 : (t : ℕ) → follow-lts.Need-returns-9 (follow-calls t) (follow-at t) follow.Post
+follow-returns-9 t c name =
     let a = c .before .before .before .before .before .before .before .before .before .before .before .before .before .before .before .before .before .before .before .args in
     let names = namesOf (a .farm .now) (a .house .now) in
     let k = c .before .before .before .before .before .before .before .before .before .before .before .before .referred4 .given in
@@ -464,6 +470,8 @@ pub +expand+follow-spec : {M : Type 1} → statement M
     (λ c κs. search needs)
     (λ c. search needs)
     (λ c κs. search needs)
+    (λ c. search needs)
+    (λ c κs. search needs)
     (follow-give-requires t)
     (λ c. search needs)
     (λ c κs. search needs)
@@ -483,9 +491,10 @@ pub +expand+follow-spec : {M : Type 1} → statement M
     (follow-returns-3 t)
     (follow-returns-4 t)
     (follow-returns-5 t)
-    (λ c. search needs)
     (follow-returns-6 t)
     (λ c. search needs)
     (follow-returns-7 t)
     (λ c. search needs)
     (follow-returns-8 t)
+    (λ c. search needs)
+    (follow-returns-9 t)
