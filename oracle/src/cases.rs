@@ -5,6 +5,8 @@ mod expressions;
 mod forms;
 mod gs;
 mod indexes;
+#[cfg(test)]
+mod kinds;
 mod limits;
 mod numbers;
 mod pairs;
@@ -166,7 +168,7 @@ mod tests {
             "trans",
             &[
                 "ok", "no 18 t", "no 18 f", "no 18 h", "no 13 f", "no 13 h", "no 1 t", "no 4 t",
-                "no 7 t", "no 8 t", "no 9 t", "no 10 t", "no 11 t", "no 12 t",
+                "no 7 t", "no 8 t", "no 9 t", "no 10 t", "no 11 t", "no 12 t", "no 21 t",
             ],
         ),
         (
@@ -189,7 +191,7 @@ mod tests {
             "itrans",
             &[
                 "ok", "no 18 t", "no 18 f", "no 18 h", "no 13 f", "no 13 h", "no 20 i", "no 1 t",
-                "no 4 t", "no 7 t", "no 8 t", "no 9 t", "no 10 t", "no 11 t", "no 12 t",
+                "no 4 t", "no 7 t", "no 8 t", "no 9 t", "no 10 t", "no 11 t", "no 12 t", "no 21 t",
             ],
         ),
     ];

@@ -296,6 +296,10 @@ mod tests {
         assert_eq!(plain("1+37_"), "no 3 at 2");
         assert_eq!(plain("(4294967296"), "no 4 at 1");
         assert_eq!(value("&FFFFFFFF"), -1);
+        // What is over 255 is refused in a reference alone.
+        assert_eq!(value("256+65601"), 65_857);
+        assert_eq!(value("2<256>0"), 0);
+        assert_eq!(plain("<256>"), "no 15 at 0");
     }
 
     #[test]
@@ -314,6 +318,9 @@ mod tests {
         assert_eq!(shown("i", 0), "no 12 at 0");
         assert_eq!(shown("s", 0), "no 17 at 0");
         assert_eq!(shown("m", 0), "no 17 at 0");
+        let holds_a_code = b"VR\x02\x01\x05m<256>";
+        let refused = over(b"m", b"", holds_a_code, 1).expect_err("a refusal");
+        assert_eq!(refused, Refusal::NotInteger.at(0).within(Slice::Text));
         assert_eq!(shown("q", 0), "no 10 at 0");
         assert_eq!(shown(&"i".repeat(33), 0), "no 10 at 0");
         let sum = |count| vec!["i"; count].join("+");

@@ -190,10 +190,14 @@ impl Translator<'_> {
         }
     }
 
-    /// A number gives one byte; any refusal but "too big" makes the content a name.
+    /// A number up to 255 gives its byte, and a greater one is no name either; any refusal of the
+    /// reader's but "too big" makes the content a name.
     fn reference(&mut self, content: &[u8], depth: usize) -> Result<(), Refusal> {
         match reader::read(content, true, None) {
-            Ok(number) => self.output.push((number.value % 256) as u8),
+            Ok(number) => {
+                let byte = u8::try_from(number.value).map_err(|_| Refusal::CodeOver255)?;
+                self.output.push(byte);
+            }
             Err(refused) if refused.refusal == Refusal::TooBig => return Err(Refusal::TooBig),
             Err(_) => self.name(content, depth)?,
         }
@@ -328,7 +332,7 @@ mod tests {
     fn examples_p10_to_p13() {
         assert_eq!(plain("|!|@"), "\\x80 to 4");
         assert_eq!(plain("\"a\"\"b\""), "a\\\"b to 6");
-        assert_eq!(plain("<321>"), "A to 5");
+        assert_eq!(plain("<321>"), "no 21 at 0");
         assert_eq!(shown("<A>b", &[86, 82, 0, 1, 1, 97, 120], 0, 1), "xb to 4");
     }
 
@@ -420,9 +424,134 @@ mod tests {
             assert_eq!(plain(&format!("x{bad}")), "no 9 at 1");
         }
         assert_eq!(plain("<99999999999x>"), "no 4 at 0");
-        for name in ["<4294967296_1>", "<37_1>", "<2_>", "<&>", "<12x>", "<a|>"] {
+        for name in [
+            "<4294967296_1>", "<37_1>", "<2_>", "<&>", "<12x>", "<256x>", "<a|>", "<-256>",
+        ] {
             assert_eq!(plain(name), "no 10 at 0");
         }
+    }
+
+    #[test]
+    fn numbers_up_to_255_give_their_byte_in_every_spelling() {
+        assert_eq!(plain("<0><9><65><254><255>"), "\\x00\\tA\\xfe\\xff to 20");
+        for spelling in [
+            "255", "&ff", "&FF", "&fF", "2_11111111", "8_377", "10_255", "16_Ff", "35_7a", "36_73",
+            "000255", "&0000000000ff", "002_0011111111", "036_0073",
+        ] {
+            let end = spelling.len() + 2;
+            assert_eq!(plain(&format!("<{spelling}>")), format!("\\xff to {end}"));
+        }
+    }
+
+    #[test]
+    fn numbers_over_255_are_refused_in_every_spelling() {
+        for spelling in [
+            "256", "257", "321", "511", "512", "65535", "65536", "65601", "4294967295", "&100",
+            "&1Ff", "&fffffFFF", "2_100000000", "8_400", "10_256", "16_100", "35_7b", "36_74",
+            "36_zZ", "000256", "&0000000000100", "002_00100000000", "036_0074",
+        ] {
+            assert_eq!(plain(&format!("xy<{spelling}>")), "no 21 at 2");
+            assert_eq!(plain(&format!("  \"<{spelling}>\"")), "no 21 at 3");
+        }
+        for too_big in [
+            "4294967296", "&100000041", "4_10000000000000000", "36_1z141z4",
+        ] {
+            assert_eq!(plain(&format!("xy<{too_big}>")), "no 4 at 2");
+        }
+    }
+
+    #[test]
+    fn a_variable_named_like_a_number_is_never_looked_up() {
+        for kind in [0, 1, 2] {
+            let named = |name| record(kind, name, b"abcd");
+            let table = ["256", "&100", "65", "4294967296", "256x"]
+                .map(named)
+                .concat();
+            for allowance in [0, 1, 1_024] {
+                let refused = |text| shown(text, &table, 0, allowance);
+                assert_eq!(refused("<256>"), "no 21 at 0");
+                assert_eq!(refused("<&100>"), "no 21 at 0");
+                assert_eq!(refused("<65>"), "A to 4");
+                assert_eq!(refused("<4294967296>"), "no 4 at 0");
+            }
+            assert_eq!(shown("<256X>", &table, 0, 0), "no 12 at 0");
+        }
+        let named = record(0, "256X", b"name");
+        assert_eq!(shown("<256x>", &named, 0, 1), "name to 6");
+    }
+
+    #[test]
+    fn the_first_refusal_from_the_left_comes_before_a_code_over_255_or_behind_it() {
+        for (text, answer) in [
+            ("<256", "no 9 at 0"),
+            ("<256\n>", "no 9 at 0"),
+            ("<256 >", "no 9 at 0"),
+            ("< 256>", "no 9 at 0"),
+            ("<65><256", "no 9 at 4"),
+            ("<256><", "no 21 at 0"),
+            ("<<256>", "no 9 at 0"),
+            ("<256><4294967296>", "no 21 at 0"),
+            ("<4294967296><256>", "no 4 at 0"),
+            ("<256><nope>", "no 21 at 0"),
+            ("<nope><256>", "no 10 at 0"),
+            ("<256>|1", "no 21 at 0"),
+            ("|1<256>", "no 7 at 0"),
+            ("\"<256>", "no 21 at 1"),
+            ("\"<256>\"x", "no 21 at 1"),
+            ("\"a\"<256>", "no 8 at 3"),
+            ("a\n<256>", "a to 1"),
+        ] {
+            assert_eq!(plain(text), answer, "{text:?}");
+        }
+        let none = LentTables::default();
+        let refused = translate(b"abc<256>", &none, None, Flags::NONE, 0, 0).expect_err("a code");
+        let code = Refusal::CodeOver255.at(3).within(Slice::Text);
+        assert_eq!(refused, Untranslated::from(code));
+    }
+
+    #[test]
+    fn a_code_over_255_stands_where_a_reference_does() {
+        assert_eq!(plain("|<256>"), "<256> to 6");
+        assert_eq!(plain("|!|<256>"), "\\xbc256> to 8");
+        assert_eq!(plain("x|!<256>"), "no 7 at 1");
+        assert_eq!(flagged("|<256>", BAR), "no 21 at 1");
+        assert_eq!(flagged("\"<256>\"", QUOTES), "no 21 at 1");
+        assert_eq!(flagged("a <256>", SPACE), "a to 1");
+        assert_eq!(flagged("\"a <256>\"", SPACE), "no 21 at 3");
+    }
+
+    #[test]
+    fn a_code_over_255_inside_macros_has_the_outermost_place() {
+        let table = [
+            record(2, "a", b"xx<b>"),
+            record(2, "b", b" \"y<256>"),
+            record(2, "top", b"<255>"),
+            record(2, "cut", b"z\n<256>"),
+            record(0, "raw", b"<256>"),
+        ]
+        .concat();
+        assert_eq!(shown("p<a>", &table, 0, 2), "no 21 at 1");
+        assert_eq!(
+            shown("pq<b>|1", &table, SPACE | BAR | QUOTES, 1),
+            "no 21 at 2"
+        );
+        assert_eq!(shown("p<a>", &table, 0, 1), "no 12 at 1");
+        assert_eq!(shown("<top><cut><raw>", &table, 0, 3), "\\xffz<256> to 15");
+        // At depth 16 a macro of that name would be too deep.
+        let mut deep = record(2, "256", b"");
+        for depth in 1..=16 {
+            let next = if depth == 16 {
+                256.to_string()
+            } else {
+                format!("m{}", depth + 1)
+            };
+            deep.extend(record(
+                2,
+                &format!("m{depth}"),
+                format!("<{next}>").as_bytes(),
+            ));
+        }
+        assert_eq!(shown("p<m1>", &deep, 0, 1_024), "no 21 at 1");
     }
 
     #[test]
@@ -536,7 +665,7 @@ mod tests {
             |text: &[u8], index: &[u8]| translate(text, &both, Some(index), Flags::NONE, 9, 0);
         let unfit = Untranslated::from(Refusal::BadIndex.at(0).within(Slice::Index));
         for text in [
-            "", "x", "|1", "<", "\"", "<4294967296>", "<nope>", "<m>", "\n",
+            "", "x", "|1", "<", "\"", "<4294967296>", "<256>", "<nope>", "<m>", "\n",
         ] {
             for index in [&wrong[..], &right[..3], b"", b"\x0c\0\0\0\0"] {
                 assert_eq!(translated(text.as_bytes(), index).as_ref(), Err(&unfit));

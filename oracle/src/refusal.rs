@@ -26,6 +26,7 @@ pub enum Refusal {
     OverLong = 18,
     BadField = 19,
     BadIndex = 20,
+    CodeOver255 = 21,
 }
 
 impl Refusal {

@@ -1,9 +1,14 @@
 //! Cases for the chapter "GS strings".
 
-use super::forms::{bad_base, in_mixed_case, no_digit, number, soup, spaces, too_big};
+mod codes;
+#[cfg(test)]
+mod kinds;
+mod rows;
+
+use super::forms::{bad_base, in_mixed_case, no_digit, soup, spaces, too_big};
 use super::limits::{allowance, least_allowance, room};
-use super::pairs::{bad_table, ill_pairs, over_long_table, random_pair, OneName, Pair};
-use super::tables::{numbered, numbered_from, one_of_each_kind, Entry};
+use super::pairs::{bad_table, ill_pairs, over_long_table, OneName, Pair};
+use super::tables::{entries_by, numbered, numbered_from, one_of_each_kind, random_name, Entry};
 use crate::gs::{translate, Flags};
 use crate::lines::Case;
 use crate::random::Random;
@@ -25,12 +30,12 @@ const SHARP_UNDER_ALL_FLAGS: [&[u8]; 23] = [
 ];
 
 /// Texts that need no flags to be sharp.
-const SHARP: [&[u8]; 52] = [
+const SHARP: [&[u8]; 53] = [
     b"|!|@", b"<321>", b"a<", b"a\nb", b"a\0b", b"a\rb", b"\"a\n\"", b"<a\n>", b"|\nA", b"|!\nA",
     b"|!|\nA", b"\n", b"  \0", b"\"a\" \nx", b"|", b"|!", b"|!|", b"|!|1", b"|!|!", b"|!|!A",
     b"|!<65>", b"|!|<65>", b"|!|\"|!|<|!||", b"|!>|!\x01|!\x80|!\xFF|!\x09", b"| ", b"|1", b"|!!",
     b"<", b"<>", b"<<65>", b"<65", b"<65>>", b"<6 5>", b"<\"65\">", b"<65|>", b"<\x8065>",
-    b"<&41><8_101><0065><2_1000001>", b"<&FFFFFFFF><4294967295><256><255>", b"<4294967296>",
+    b"<&41><8_101><0065><2_1000001>", b"<0><&FF><255>", b"<256>", b"<4294967296>",
     b"x<99999999999x>", b"<&100000000>", b"<4294967296_1>", b"<37_1>", b"<2_>", b"<&>", b"<12x>",
     b"<-1>", b"<65 >", b"<|><a|>", b"ab<nope><4294967296>", b"|1<", b"<|1",
 ];
@@ -67,7 +72,7 @@ fn over(text: &[u8], farm: &[u8], house: &[u8], room: usize) -> Case {
     }
 }
 
-/// The examples, the sharp texts, every code, the texts over tables, long texts.
+/// The examples, the sharp texts, every code, the numbers, the texts over tables, long texts.
 pub fn fixed() -> Vec<Case> {
     let mut cases = examples();
     for text in SHARP {
@@ -78,7 +83,8 @@ pub fn fixed() -> Vec<Case> {
             cases.push(nameless(text, three_bits << 29, PLENTY));
         }
     }
-    cases.extend(codes());
+    cases.extend(behind_bars());
+    cases.extend(codes::fixed());
     cases.extend(over_tables());
     cases.extend(long());
     cases
@@ -95,6 +101,7 @@ pub fn over_tables() -> Vec<Case> {
         rooms(),
         in_ill_pairs(),
         in_full_tables(),
+        codes::over_tables(),
     ]
     .into_iter()
     .flatten()
@@ -125,7 +132,7 @@ fn examples() -> Vec<Case> {
 }
 
 /// All good codes in one text, then each bad one behind "|" and behind "|!|".
-fn codes() -> Vec<Case> {
+fn behind_bars() -> Vec<Case> {
     let each_behind = |bar: &[u8], bytes: &[u8]| -> Vec<u8> {
         let symbol = |&byte: &u8| [bar, &[byte]].concat();
         bytes.iter().flat_map(symbol).collect()
@@ -263,7 +270,7 @@ fn chain(length: usize, last: &[u8]) -> Vec<Entry> {
 
 /// Macros of both tables around depth 16, what the deepest one holds, and the look-ups they spend.
 fn depths() -> Vec<Case> {
-    let lasts: [&[u8]; 6] = [b"x", b"<s>", b"<n>", b"<65>", b"<m1>", b"<nope>"];
+    let lasts: [&[u8]; 7] = [b"x", b"<s>", b"<n>", b"<65>", b"<256>", b"<m1>", b"<nope>"];
     let mut cases = Vec::new();
     for length in [15, 16, 17] {
         for last in lasts {
@@ -325,7 +332,7 @@ fn rooms() -> Vec<Case> {
 
 /// Bad tables come before everything that a text meets, even where it names nothing.
 fn in_ill_pairs() -> Vec<Case> {
-    let texts: [&[u8]; 4] = [b"", b"|", b"<f>", b"<h>x"];
+    let texts: [&[u8]; 5] = [b"", b"|", b"<f>", b"<h>x", b"<256>"];
     let mut cases = Vec::new();
     for lent in ill_pairs() {
         for (room, text) in texts.iter().enumerate() {
@@ -368,6 +375,7 @@ pub fn random(random: &mut Random) -> Case {
         0 => deep(random),
         1 => in_any_tables(random),
         2 => (soup(random, b"\"\"||!!<>@a65 \n", 9), LentTables::default()),
+        3 => return codes::random(random),
         _ => {
             let pair = pair(random);
             (text(random, &pair.names()), pair.lent())
@@ -403,7 +411,9 @@ fn with_limits(random: &mut Random, text: Vec<u8>, tables: LentTables, flags: u3
 /// Records whose macros name mostly what is behind their own name, in either table, so that few
 /// name themselves.
 fn pair(random: &mut Random) -> Pair {
-    let mut pair = random_pair(random, 5);
+    let count = random.below(6);
+    let entries = entries_by(random, count, name);
+    let mut pair = Pair::dealt(random, entries);
     let names = pair.names();
     for entry in pair.farm.iter_mut().chain(&mut pair.house) {
         if entry.kind == Kind::Macro {
@@ -415,6 +425,15 @@ fn pair(random: &mut Random) -> Pair {
         }
     }
     pair
+}
+
+/// Any name, now and then one that is a number.
+fn name(random: &mut Random) -> Vec<u8> {
+    if random.one_in(8) {
+        codes::name(random)
+    } else {
+        random_name(random)
+    }
 }
 
 /// Any text with tables of which one or both are perhaps damaged.
@@ -482,7 +501,7 @@ fn symbol(random: &mut Random, names: &[Vec<u8>]) -> Vec<u8> {
         6 | 7 => vec![b'|', random.pick(CODES)],
         8 => vec![b'|', b'!', b'|', random.pick(CODES)],
         9 => vec![b'|', b'!', random.pick(b" !>'1Az\x01\x7F\x80\xFF")],
-        10 | 11 => [b"<", &number(random)[..], b">"].concat(),
+        10 | 11 => [b"<", &codes::byte(random)[..], b">"].concat(),
         _ if names.is_empty() => b"|?".to_vec(),
         _ => {
             let name = &names[random.below(names.len())];
@@ -494,7 +513,7 @@ fn symbol(random: &mut Random, names: &[Vec<u8>]) -> Vec<u8> {
 /// A symbol that is bad in itself or that names nothing.
 fn fault(random: &mut Random) -> Vec<u8> {
     let in_brackets = |content: Vec<u8>| [b"<", &content[..], b">"].concat();
-    match random.below(10) {
+    match random.below(12) {
         0 => vec![b'|', random.byte()],
         1 => vec![b'|', b'!', b'|', random.byte()],
         2 => random
@@ -507,8 +526,13 @@ fn fault(random: &mut Random) -> Vec<u8> {
         6 => in_brackets(bad_base(random)),
         7 => in_brackets(no_digit(random)),
         8 => in_brackets(vec![b'q'; random.pick(&[1, 32, 33])]),
+        9 | 10 => {
+            // A bar makes it an ordinary row of bytes, unless bars are ordinary themselves.
+            let bar = random.pick(&["", "", "|"]).into();
+            [bar, in_brackets(codes::over_255(random))].concat()
+        }
         _ => random
-            .pick(&["\"", "\n", "\0", "<12x>", "<99999999999x>"])
+            .pick(&["\"", "\n", "\0", "<12x>", "<256x>", "<99999999999x>"])
             .into(),
     }
 }

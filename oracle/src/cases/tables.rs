@@ -138,7 +138,7 @@ pub fn entries_by(
 }
 
 /// A name from the list in any case, or any name at all.
-fn random_name(random: &mut Random) -> Vec<u8> {
+pub fn random_name(random: &mut Random) -> Vec<u8> {
     if random.below(4) > 0 {
         let name = random.pick(&NAMES);
         return in_mixed_case(random, name.as_bytes());

@@ -3,6 +3,7 @@
 use super::growth::read_on;
 use super::moments::{Moment, FIELDS, LARGEST};
 use crate::answers::answer;
+use crate::cases::kinds::{self, assert_met};
 use crate::cases::operation;
 use crate::lines::Case;
 
@@ -17,7 +18,7 @@ struct Met {
     need: Option<usize>,
 }
 
-type Kind = (&'static str, fn(&Met) -> bool);
+type Kind = kinds::Kind<Met>;
 
 /// Kinds that fixed cases and random ones have.
 const EVERYWHERE: [Kind; 21] = [
@@ -170,12 +171,6 @@ impl Met {
     fn is_bad(&self, format: &[u8]) -> bool {
         let moment = Moment::of(LARGEST);
         format.len() < 1_000 && read_on(format, 0, &moment).is_err()
-    }
-}
-
-fn assert_met(kinds: &[Kind], cases: &[Met], among: &str) {
-    for (name, is_it) in kinds {
-        assert!(cases.iter().any(is_it), "no case {among}: {name}");
     }
 }
 

@@ -1,10 +1,11 @@
 //! Kinds of case that must be met, so that none is lost unseen when the making of cases changes.
 
 use super::met::{begins, Met};
+use crate::cases::kinds::{self, assert_met};
 use crate::cases::operation;
 use crate::random::Random;
 
-type Kind = (&'static str, fn(&Met) -> bool);
+type Kind = kinds::Kind<Met>;
 
 /// Kinds of building that fixed cases and random ones have.
 const BUILDING: [Kind; 11] = [
@@ -180,7 +181,7 @@ const IN_BOTH: [Kind; 8] = [
 ];
 
 /// Kinds of translation that fixed cases and random ones have.
-const TRANSLATING: [Kind; 10] = [
+const TRANSLATING: [Kind; 11] = [
     ("a text that would be accepted", |met| {
         met.is_unfit() && met.would("ok")
     }),
@@ -189,6 +190,9 @@ const TRANSLATING: [Kind; 10] = [
     }),
     ("a bad code", |met| met.is_unfit() && met.would("no 7")),
     ("a bad reference", |met| met.is_unfit() && met.would("no 9")),
+    ("a code over 255", |met| {
+        met.is_unfit() && met.would("no 21")
+    }),
     ("too few look-ups", |met| {
         met.is_unfit() && met.would("no 12")
     }),
@@ -211,12 +215,6 @@ fn met(name: &str) -> [(Vec<Met>, &'static str); 2] {
     let drawn = drawn.map(Met::new).collect();
     let fixed = (operation.fixed)().into_iter().map(Met::new).collect();
     [(fixed, "fixed"), (drawn, "random")]
-}
-
-fn assert_met(kinds: &[Kind], cases: &[Met], among: &str) {
-    for (name, is_it) in kinds {
-        assert!(cases.iter().any(is_it), "no case {among}: {name}");
-    }
 }
 
 #[test]

@@ -16,9 +16,9 @@ use crate::variables::{Kind, LentTables};
 const PLENTY: usize = 1_000;
 
 /// Texts that name nothing or every kind of record, and such as meet each refusal.
-const TEXTS: [&str; 20] = [
+const TEXTS: [&str; 22] = [
     "", "x", "\n", " ", "a b", "<65>", "<h>", "<F><H>", "<m>", "<i>", "<x>", "|", "|1", "<", "<>",
-    "\"a", "\"a\"x", "<4294967296>", "a<nope>", "ab<self>",
+    "\"a", "\"a\"x", "<4294967296>", "a<nope>", "ab<self>", "<255>", "a<256>",
 ];
 
 fn text(text: &[u8], allowance: u32, room: usize) -> Text {
@@ -154,7 +154,7 @@ fn in_ill_pairs() -> Vec<Case> {
         let (farm, house) = (Known::of(&tables.farm), Known::of(&tables.house));
         for index in [&house.right[..], &[0], &[10, 0, 0, 0]] {
             let lent = Lent::with(&farm, &house, index);
-            for (room, written) in ["", "|", "<f>", "<h>x"].iter().enumerate() {
+            for (room, written) in ["", "|", "<f>", "<h>x", "<256>"].iter().enumerate() {
                 cases.push(translated(&lent, &text(written.as_bytes(), 1, room)));
             }
         }
