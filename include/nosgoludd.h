@@ -31,7 +31,7 @@
 #include <stddef.h>
 #include <stdint.h>
 
-#define NOS_VERSION "1.5.0"       /* each change request raises the second number, other work the third; CHANGES.md has them all */
+#define NOS_VERSION "1.6.0"       /* each change request raises the second number, other work the third; CHANGES.md has them all */
 #define NOS_STACK 49152u          /* the most bytes of stack that a call takes */
 #define NOS_LONGEST 65535u        /* the longest text, format or table that is read, in bytes */
 #define NOS_TIME 5u               /* the bytes of a time */
@@ -43,7 +43,7 @@ extern "C" {
 
 /* One numbering for the whole library. nos_convert refuses by 14 and 1, nos_convert_date by 18, 19 and 1, nos_read_unsigned by 18, 3,
  * 2, 4, 5 and 6, nos_check_table by 18 and 13, nos_build_index by 18, 13 and 1, nos_look_up by 18, 13, 20 and 10, nos_translate by 18,
- * 13, 20, 9, 4, 10, 11, 12, 7, 8 and 1, nos_evaluate by 18, 13, 15, 11, 2, 3, 4, 10, 17, 12 and 16. */
+ * 13, 20, 9, 4, 21, 10, 11, 12, 7, 8 and 1, nos_evaluate by 18, 13, 15, 11, 2, 3, 4, 10, 17, 12 and 16. */
 enum nos_refusal {
     NOS_ACCEPTED = 0,
     NOS_NO_ROOM = 1,
@@ -65,7 +65,8 @@ enum nos_refusal {
     NOS_NOT_AN_INTEGER = 17,
     NOS_OVER_LENGTH = 18, /* of a time: not five bytes */
     NOS_BAD_FIELD = 19,
-    NOS_BAD_INDEX = 20
+    NOS_BAD_INDEX = 20,
+    NOS_CODE_OVER_255 = 21
 };
 
 /* A refusal in words. */
@@ -93,6 +94,7 @@ static inline const char *nos_words(uint32_t number)
         "Text or table over 65,535 bytes, or a time not of five",
         "Bad field",
         "Index does not fit this table",
+        "Code over 255",
     };
     return number < sizeof words / sizeof words[0] ? words[number] : "No such refusal";
 }
@@ -369,7 +371,9 @@ struct nos_variable nos_look_up(const uint8_t *name, size_t name_length, const u
  * "<", a quote under any flags, or another "|!".
  *
  * A reference is "<", one or more bytes that a name may have, and ">". What stands between is read as by nos_read_unsigned with
- * whole and no limit. A number gives one byte, its remainder by 256. What is refused there, but not by 4, is a name:
+ * whole and no limit. A number is a byte, 0 to 255, and gives that one; over 255 it is refused, by 21, in a macro too, and a variable of
+ * that name is not looked for. This departs from the RISC OS Programmer's Reference Manual, by which the remainder by 256 is taken, as it
+ * was here before 1.6.0: <321> gave A. What nos_read_unsigned refuses, but not by 4, is a name:
  *   a string    gives its bytes, which are not read again
  *   an integer  gives its signed decimal
  *   a macro     gives its value translated as a text of its own, without flags, one level deeper; at most 16 levels
@@ -387,6 +391,7 @@ struct nos_variable nos_look_up(const uint8_t *name, size_t name_length, const u
  *                 then the first of these that the reading meets from the left:
  *               9 NOS_BAD_REFERENCE     no name byte after the "<", or no ">" after those; the "<"
  *               4 NOS_TOO_BIG           its number is over 4,294,967,295; the "<"
+ *              21 NOS_CODE_OVER_255     its number is over 255; the "<"
  *              10 NOS_UNKNOWN_NAME      no record of either table has an equal name; the "<"
  *              11 NOS_TOO_DEEP          a macro named at level 16, your text being level 0; the "<"
  *              12 NOS_ALLOWANCE_SPENT   no look-up is left for the name; the "<"
@@ -394,7 +399,7 @@ struct nos_variable nos_look_up(const uint8_t *name, size_t name_length, const u
  *               8 NOS_BAD_STRING        the text ends in the quotes: the open quote; it goes on after them: the byte there
  *                 and last:
  *               1 NOS_NO_ROOM           the room is less than the need, which is in the answer; place 0
- *              At one reference 9, 4, 10, 11, 12 come in this order. A refusal inside a macro has its own number, and the place of
+ *              At one reference 9, 4, 21, 10, 11, 12 come in this order. A refusal inside a macro has its own number, and the place of
  *              the "<" in your text that led there.
  * counted is 0 but where a table or the index is refused.
  *
@@ -402,7 +407,8 @@ struct nos_variable nos_look_up(const uint8_t *name, size_t name_length, const u
  * more; with no flags, allowance 2 and room 2, and with the house table's index as without it:
  *   <A>b         xb, place 4, need 2, free 0              b<m>           refused 7 at 1, for the bar in the macro
  *   |!|@         the byte 128, place 4, need 1, free 1    b<c>           refused 10 at 1
- *   <321>        A, place 5, need 1, free 1               <a><a><a>      refused 12 at 6
+ *   <65>         A, place 4, need 1, free 1               <a><a><a>      refused 12 at 6
+ *   <&FF>        the byte 255, place 5, need 1, free 1    <321>          refused 21 at 0, free 2, out as it was
  *   """"         ", place 4, need 1, free 1               <4294967296>   refused 4 at 0
  *   "b"  c       refused 8 at 5; with NOS_SPACE_ENDS      a<             refused 9 at 1
  *                b, place 3, need 1, free 1               <A>bc          refused 1, need 3, free 2, out as it was
