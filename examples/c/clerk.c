@@ -158,6 +158,19 @@ static void other_refusals(void)
     printf("no text: refused %" PRIu32 " at %zu, %s\n", empty.number, empty.place, nos_words(empty.number));
 }
 
+/* Every number of a refusal has words, and no two the same ones; the number after the last has none. */
+static void words(void)
+{
+    const char *none = nos_words(NOS_CODE_OVER_255 + 1);
+    check(strcmp(none, "No such refusal") == 0, "the numbers end there");
+    for (uint32_t number = 0; number <= NOS_CODE_OVER_255; number++) {
+        check(strcmp(nos_words(number), none) != 0, "every number has words");
+        for (uint32_t other = 0; other < number; other++)
+            check(strcmp(nos_words(number), nos_words(other)) != 0, nos_words(number));
+    }
+    printf("%d refusals, the last is %s\n", NOS_CODE_OVER_255, nos_words(NOS_CODE_OVER_255));
+}
+
 /* The diary's case: a quantity that does not fit the end of a page goes to the next one whole, and the rows behind it follow. */
 static void across_the_page(void)
 {
@@ -297,6 +310,7 @@ int main(int argc, char **argv)
         conversions();
         with_and_without_a_zero_byte();
         other_refusals();
+        words();
         across_the_page();
         to_the_end_of_the_page();
         read_back();

@@ -184,8 +184,9 @@ static struct served read_unsigned(const struct machine *machine, struct registe
  *           terminator. The size has to have room for it
  *   short   a buffer that is too short is no error: C set, R1 0, R2 the size plus 1; R0 and every byte of the buffer stay. The
  *           need, with the terminator, which the library knows nothing of, is in struct served alone
- *   errors  Bad string 7, 8, 9; Number too big 4; System variable not found 10; as by nos_words 11, 12, 13; Text or table over 65,535
- *           bytes 18; Bad address: no byte 0, 10 or 13 before memory's end, or the buffer is not all memory
+ *   errors  Bad string 7, 8, 9; Number too big 4; System variable not found 10; as by nos_words 11, 12, 13, and 21, where the book takes
+ *           the low eight bits; Text or table over 65,535 bytes 18; Bad address: no byte 0, 10 or 13 before memory's end, or the buffer
+ *           is not all memory
  * After an error C, too, stays as it was. */
 static struct served gs_trans(const struct machine *machine, struct registers *registers)
 {

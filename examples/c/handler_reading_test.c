@@ -221,7 +221,7 @@ static void ends(void)
 static void bad_macros(void)
 {
     static const struct { const char *value; uint32_t refusal; } list[] = {
-        {"a<", 9}, {"<4294967296>", 4}, {"<Nobody>", 10}, {"a|1", 7}, {"\"a", 8}, {"<m>", 11}, {"<Year><Year>", 12},
+        {"a<", 9}, {"<4294967296>", 4}, {"<256>", 21}, {"<Nobody>", 10}, {"a|1", 7}, {"\"a", 8}, {"<m>", 11}, {"<Year><Year>", 12},
     };
     for (size_t i = 0; i < sizeof list / sizeof list[0]; i++) {
         const struct variable_test expanded = NOT_READ(list[i].value, 0x23, "m\r", NULL, 64, 3, list[i].refusal, 0, "Bad string");

@@ -125,6 +125,7 @@ static void bad_texts(void)
         NOT_SET("an open quote", X + 0x24, "New\r", NULL, "\"a\r", 2, 0, 8, 0, "Bad string"),
         NOT_SET("an open reference", 0x24, "Farm\r", NULL, "a<\r", 2, 0, 9, 0, "Bad string"),
         NOT_SET("a large number", X + 0x24, "New\r", NULL, "<4294967296>\r", 12, 0, 4, 0, "Bad string"),
+        NOT_SET("a code over 255", 0x24, "New\r", NULL, "<256>\r", 5, 0, 21, 0, "Bad string"),
         NOT_SET("an unknown name", 0x24, "New\r", NULL, "<New>\r", 5, 0, 10, 0, "Bad string"),
         NOT_SET("a macro in itself", X + 0x24, "Farm\r", NULL, "<loop>\r", 6, 0, 11, 0, "Bad string"),
         NOT_SET("no expression", 0x24, "New\r", NULL, "\r", 0, 3, 15, 0, "Bad expression"),
@@ -380,6 +381,21 @@ static void one_after_the_other(void)
     for (size_t i = 0; i < sizeof list / sizeof list[0]; i++) lay_and_run(&list[i], i % 2 == 0);
 }
 
+/* A name may be a number. It is set and read like any other, but in a reference it is that number. */
+static void numbers_for_names(void)
+{
+#define NUMBERED ALL "VR\x00\x03\x01" "256x"
+    static const struct variable_test list[] = {
+        IS_SET("a number for a name", 0x24, "256\r", NULL, "x\r", 1, 0, "256", 0, NUMBERED),
+        FOUND("the same read", X + 0x23, "256\r", NULL, 64, 3, "256", 0, "x"),
+        NOT_READ("the same in a reference", 0x27, "<256>\r", NULL, 64, 0, 21, 0, "Code over 255"),
+        IS_SET("the same in a macro", X + 0x24, "m\r", NULL, "<256>\r", 5, 2, "m", 2, NUMBERED "VR\x02\x01\x05" "m<256>"),
+        NOT_READ("that macro", X + 0x27, "a<m>\r", NULL, 64, 0, 21, 0, "Code over 255"),
+    };
+    begin();
+    for (size_t i = 0; i < sizeof list / sizeof list[0]; i++) lay_and_run(&list[i], i % 2 == 0);
+}
+
 /* A program that hands R3 on from call to call deletes each of its own variables once, in the order of names. */
 static void deleting_all(void)
 {
@@ -413,5 +429,6 @@ void setting(void)
     no_table();
     contexts();
     one_after_the_other();
+    numbers_for_names();
     deleting_all();
 }

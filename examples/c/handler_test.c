@@ -239,6 +239,7 @@ static void gs_trans(void)
 {
     static const struct test list[] = {
         {"codes", 0x27, "a|Jb<65>\r", TEXT, TEXT, BUFFER, 64, DONE, TEXT + 9, BUFFER, 4, 0, "a\nbA\r", BUFFER, 5},
+        {"the largest code", X + 0x27, "<255><&ff>\r", TEXT, TEXT, BUFFER, 64, DONE, TEXT + 11, BUFFER, 2, 0, "\xFF\xFF\r", BUFFER, 3},
         {"variables", X + 0x27, "<head> <SUM>\n", TEXT, TEXT, BUFFER, 64, DONE, TEXT + 13, BUFFER, 10, 0, "Ash! -1250\n", BUFFER,
          11},
         {"a name of the house", 0x27, "<YEAR>\r", TEXT, TEXT, BUFFER, 64, DONE, TEXT + 7, BUFFER, 4, 0, "1989\r", BUFFER, 5},
@@ -261,6 +262,8 @@ static void gs_trans(void)
         FAILS("an open reference", 0x27, "a<\r", TEXT, TEXT, BUFFER, 64, 9, 0, "Bad string"),
         FAILS("the same, no buffer", 0x27, "a<\r", TEXT, TEXT, BUFFER, 0, 9, 0, "Bad string"),
         FAILS("a large number", X + 0x27, "<4294967296>\r", TEXT, TEXT, BUFFER, 64, 4, 0, "Number too big"),
+        FAILS("a code over 255", 0x27, "a<256>\r", TEXT, TEXT, BUFFER, 64, 21, 0, "Code over 255"),
+        FAILS("one with the low bits of A, no buffer", X + 0x27, "<321>\r", TEXT, TEXT, BUFFER, 0, 21, 0, "Code over 255"),
         FAILS("an unknown name", 0x27, "<x>\r", TEXT, TEXT, BUFFER, 64, 10, 0, "System variable not found"),
         FAILS("a macro in itself", X + 0x27, "<loop>\r", TEXT, TEXT, BUFFER, 64, 11, 0, "Too deep"),
         {"the last bytes of memory", 0x27, "<sum>\r", SIZE - 6, SIZE - 6, BUFFER, 6, DONE, SIZE, BUFFER, 5, 0, "-1250\r", BUFFER,
@@ -598,7 +601,7 @@ static void long_strings(void)
 /* No message is cut. The library's words for 18 are longer than the room; the handler has its own, which the calls below see whole. */
 static void messages(void)
 {
-    for (uint32_t number = 0; number <= NOS_BAD_INDEX; number++)
+    for (uint32_t number = 0; number <= NOS_CODE_OVER_255; number++)
         check(number == NOS_OVER_LENGTH || strlen(nos_words(number)) < MESSAGE_ROOM, nos_words(number),
               "there is room for the words and their zero byte");
 }

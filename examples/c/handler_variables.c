@@ -177,7 +177,7 @@ static struct nos_answer give_value(const struct machine *machine, const struct 
  *   errors  System variable not found 10: no variable, or no further one. Of a plain name there is no further one where R3 points to
  *           that name; otherwise it is found whatever R3 is
  *           Buffer overflow 1: the buffer stays as it was; the need is in struct served alone
- *           Bad string 4, 7, 8, 9, 10, 11, 12: the macro cannot be translated
+ *           Bad string 4, 7, 8, 9, 10, 11, 12, 21: the macro cannot be translated
  *           as by nos_words 13; Text or table over 65,535 bytes 18, of a table
  *           Bad address: the name, or with wildcards the one of R3, has no end in memory, or the buffer is not all memory */
 struct served swi_read_variable(const struct machine *machine, struct registers *registers)

@@ -29,12 +29,15 @@ static const struct variable of_the_house[] = {
     {NOS_STRING, "Unit", "kg", 2, 92},
     {NOS_INTEGER, "Year", "\xC5\x07\x00\x00", 4, 103}, /* 1989 */
     {NOS_STRING, "Remark", "", 0, 116},
+    {NOS_MACRO, "Slip", "see <256>", 9, 127},
+    {NOS_STRING, "256", "not by a reference", 18, 145},
+    {NOS_STRING, "256th", "no number", 9, 171},
 };
 enum { FARM = sizeof of_the_farm / sizeof of_the_farm[0], HOUSE = sizeof of_the_house / sizeof of_the_house[0] };
 
 static const char *const kinds[] = {"a string", "an integer", "a macro"};
 
-static uint8_t farm[128], house[128];
+static uint8_t farm[128], house[256];
 static struct nos_tables tables = {farm, 0, house, 0, NULL, 0, 0};
 static uint8_t slip[2 * MARGIN + SLIP];
 static uint8_t longest[NOS_LONGEST + 1];
@@ -137,6 +140,7 @@ static void look_up(void)
     find("bALANCE", tables, NOS_IN_THE_FARM, &of_the_farm[1]);
     find("heading", tables, NOS_IN_THE_HOUSE, &of_the_house[1]);
     find("Remark", tables, NOS_IN_THE_HOUSE, &of_the_house[6]);
+    find("256", tables, NOS_IN_THE_HOUSE, &of_the_house[8]);
     puts("without the farm's table:");
     find("Farm$Name", the_house_alone(), NOS_IN_THE_HOUSE, &of_the_house[0]);
     find("bALANCE", the_house_alone(), NOS_IN_THE_HOUSE, &of_the_house[2]);
@@ -258,7 +262,9 @@ static void translations(void)
         {"<heading>", "", 0, 3, "Lower Ash: -1250", 16, 9},
         {"<PAGE>", "", 0, 5, "Lower Ash: -1250 kg", 19, 6},
         {"<Year><remark>", "", 0, 2, "1989", 4, 14},
-        {"<&41><321><2_1000001>", "", 0, 0, "AAA", 3, 21},
+        {"<&41><65><2_1000001>", "", 0, 0, "AAA", 3, 20},
+        {"<255><&fF><36_73><000255><0>", "", 0, 0, "\xFF\xFF\xFF\xFF\x00", 5, 28},
+        {"<256TH>", "", 0, 1, "no number", 9, 7},
         {"|Jrow|?|!|@|!a||", "", 0, 0, "\nrow\x7F\x80\xE1|", 8, 16},
         {"\"\"\"Ash\"\"\"  ", "", 0, 0, "\"Ash\"", 5, 11},
         {"\"|\"<Balance>\"\" |?\"", "", 0, 1, "\"-1250\" \x7F", 9, 18},
@@ -306,6 +312,14 @@ static void refusals(void)
         {"a<", 9, NOS_BAD_REFERENCE, 1},
         {"row <>", 9, NOS_BAD_REFERENCE, 4},
         {"<4294967296>", 9, NOS_TOO_BIG, 0},
+        {"<256>", 9, NOS_CODE_OVER_255, 0}, /* though a variable has that name */
+        {"<321>", 0, NOS_CODE_OVER_255, 0}, /* a number takes no look-up. By the book this is A */
+        {"see <&100>", 9, NOS_CODE_OVER_255, 4},
+        {"<255><36_74> <", 9, NOS_CODE_OVER_255, 5},
+        {"\"<4294967295>", 9, NOS_CODE_OVER_255, 1}, /* the open quote is met later, at the text's end */
+        {"<256", 9, NOS_BAD_REFERENCE, 0},
+        {"see <Slip>", 9, NOS_CODE_OVER_255, 4}, /* <256> stands in the macro; the place is that of <Slip> */
+        {"see <Slip>", 0, NOS_ALLOWANCE_SPENT, 4},
         {"see <Nobody> <", 9, NOS_UNKNOWN_NAME, 4},
         {"see <Owner>", 9, NOS_UNKNOWN_NAME, 4}, /* Nobody stands in the macro; the place is that of <Owner> */
         {"-<Again>", 16, NOS_TOO_DEEP, 1},
@@ -325,6 +339,37 @@ static void refusals(void)
         expect_refused(ask_of(tables, lines[i].text, 0, lines[i].allowance), what, lines[i].number, NOS_IN_THE_TEXT,
                        lines[i].place);
     }
+}
+
+/* A number as a reference, in decimal and in hex, under all flags: up to 255 it gives its byte, and over that it gives none. */
+static void check_code(uint32_t number)
+{
+    char texts[2][16];
+    snprintf(texts[0], sizeof texts[0], "<%" PRIu32 ">", number);
+    snprintf(texts[1], sizeof texts[1], "<&%" PRIX32 ">", number);
+    for (uint32_t i = 0; i < 16; i++) {
+        const char *text = texts[i % 2];
+        struct nos_answer answer = on_a_clean_slip(ask_of(tables, text, i / 2 << 29, 0), 1);
+        if (number <= 255) {
+            check(answer.number == NOS_ACCEPTED && answer.place == strlen(text), text);
+            check(answer.need == 1 && slip[MARGIN] == number, text);
+        } else {
+            check(answer.number == NOS_CODE_OVER_255 && answer.counted == NOS_IN_THE_TEXT && answer.place == 0, text);
+        }
+    }
+}
+
+/* The low bits of a number never make up for its other ones: 256 has those of 0, and 2 to any power from 8 on and 65 those of A. */
+static void codes(void)
+{
+    for (uint32_t number = 0; number < 1024; number++) check_code(number);
+    for (unsigned bit = 8; bit < 32; bit++) {
+        check_code(1u << bit);
+        check_code((1u << bit) + 65);
+    }
+    check_code(UINT32_MAX);
+    printf("<0> to <255>, in hex too: the byte itself; from <256> on: refused %d, %s, no byte changed\n", NOS_CODE_OVER_255,
+           nos_words(NOS_CODE_OVER_255));
 }
 
 /* Refusals of what is lent, before the text's own: 18 of the text, the farm's table, the house's; then 13 of the two. */
@@ -466,6 +511,7 @@ void headings(void)
     translations();
     of_nothing();
     refusals();
+    codes();
     bad_tables();
     the_largest();
     sums();

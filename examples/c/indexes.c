@@ -174,7 +174,7 @@ static void expect_given(const char *text, struct nos_tables in, const char *giv
 static void translations(void)
 {
     static const char *const wrong[] = {
-        "see <Nobody>", "<Heading", "<Unit>|", "\"<Zone>", "<4294967296>", "<7th><7th><Heading><Unit><7th><7th>",
+        "see <Nobody>", "<Heading", "<Unit>|", "\"<Zone>", "<4294967296>", "<321>", "<7th><7th><Heading><Unit><7th><7th>",
     };
     struct nos_tables tables = with_index(), alone = tables;
     alone.farm_length = 0;
@@ -191,7 +191,8 @@ static void translations(void)
  * nobody, texts that name something, name nothing, have no byte, or are wrong. */
 static void check_unfit(struct nos_tables in, const char *how)
 {
-    static const char *const names[] = {"Unit", "Farm$Name", "Nobody", ""}, *const texts[] = {"<Unit>", "row", "", "<"};
+    static const char *const names[] = {"Unit", "Farm$Name", "Nobody", "", "321"};
+    static const char *const texts[] = {"<Unit>", "row", "", "<", "<321>"};
     for (size_t i = 0; i < sizeof names / sizeof names[0]; i++) {
         struct nos_variable found = nos_look_up(bytes_of(names[i]), strlen(names[i]), NOS_INDEXED(in));
         check(found.number == NOS_BAD_INDEX && found.counted == NOS_IN_THE_INDEX && found.place == 0, how);

@@ -13,7 +13,7 @@ enum { MARGIN = 16, PAPER = 70000, HEAD = 5 };
 
 static uint8_t paper[MARGIN + PAPER + MARGIN], as_it_was[sizeof paper];
 static struct table table;
-static size_t changes, refusals, lines, met[NOS_BAD_INDEX + 1]; /* `met`: how often a change had each number */
+static size_t changes, refusals, lines, met[NOS_CODE_OVER_255 + 1]; /* `met`: how often a change had each number */
 
 static void check(bool holds, const char *what, const char *claim)
 {
