@@ -5,8 +5,8 @@ mod nosgoludd;
 
 use nosgoludd::{
     build_index, build_index_to_vec, check_table, convert, convert_date, convert_date_to_vec, evaluate, look_up, read_unsigned,
-    translate, translate_to_vec, Evaluated, Found, Number, Refusal, Table, Tables, Variable, BAD_INDEX, BAR_PLAIN, DECIMAL,
-    NO_LIMIT, NO_ROOM, QUOTE_PLAIN, SIGNED_4, SPACED_UNSIGNED_4, SPACE_ENDS, UNSIGNED_4,
+    translate, translate_to_vec, Evaluated, Found, Number, Refusal, Table, Tables, Variable, BAD_INDEX, BAR_PLAIN, CODE_OVER_255,
+    DECIMAL, NO_LIMIT, NO_ROOM, QUOTE_PLAIN, SIGNED_4, SPACED_UNSIGNED_4, SPACE_ENDS, UNSIGNED_4,
 };
 
 /// Records one behind the other: V, R, kind, name length, value length, name, value. The house has a heading for every farm, and a
@@ -66,6 +66,32 @@ fn mistakes() {
     // the heading and its three names take four look-ups, whichever tables they are in
     assert_eq!(translate_to_vec(b"<Heading>", TABLES, 0, 3), Err(refused(12, 0)));
     assert!(translate_to_vec(b"<Heading>", TABLES, 0, 4).is_ok());
+}
+
+/// A number between "<" and ">" is a byte. Over 255 it is a mistake, whatever its low bits, and though a variable has it for a name.
+fn codes() -> Result<(), Refusal> {
+    let numbered = Tables { farm: b"VR\x00\x03\x01256xVR\x00\x05\x01256thyVR\x02\x04\x09Slipsee <256>", ..TABLES };
+    assert_eq!(translate_to_vec(b"<65><&41><0><255><&FF><36_73>", numbered, 0, 0)?, b"AA\0\xFF\xFF\xFF");
+    assert_eq!(look_up(b"256", numbered)?.variable, Variable::String(b"x"));
+    assert_eq!(translate_to_vec(b"<256th>", numbered, 0, 1)?, b"y", "which is no number");
+    for number in 0..=1024u32 {
+        let given = translate_to_vec(format!("<{number}>").as_bytes(), numbered, 0, 0);
+        assert_eq!(given, u8::try_from(number).map(|byte| vec![byte]).map_err(|_| refused(CODE_OVER_255, 0)), "{number}");
+    }
+
+    let text = b"<65>sh <321>";
+    let mut out = *b"................";
+    let refusal = translate(text, numbered, 0, 8, &mut out).expect_err("321 is over 255");
+    assert_eq!(refusal, refused(CODE_OVER_255, 7));
+    assert_eq!(&out, b"................", "a refusal changes no byte");
+    println!("{}: {refusal}", shown(text));
+
+    assert_eq!(translate_to_vec(b"row <Slip>", numbered, 0, 8), Err(refused(CODE_OVER_255, 4)), "the place of <Slip>");
+    for text in [&b"<65601>"[..], b"<4294967295>"] {
+        assert_eq!(translate_to_vec(text, numbered, 0, 0), Err(refused(CODE_OVER_255, 0)), "{}", shown(text));
+    }
+    assert_eq!(translate_to_vec(b"<4294967296>", numbered, 0, 0), Err(refused(4, 0)), "which the reader refuses");
+    Ok(())
 }
 
 /// Refusals of a table, which come before the text's own: the place says where in it, and `table` which one it is.
@@ -250,6 +276,7 @@ fn stale_index() -> Result<(), Refusal> {
 fn main() -> Result<(), Refusal> {
     ask_twice()?;
     mistakes();
+    codes()?;
     bad_tables();
     flags()?;
     numbers()?;

@@ -38,7 +38,7 @@ fn main() {
     for (number, words) in WORDS.iter().enumerate() {
         println!("{number} {words}");
     }
-    println!("{NO_ROOM}\n{BAD_INDEX}");
+    println!("{NO_ROOM}\n{BAD_INDEX}\n{CODE_OVER_255}");
     for call in CALLS {
         println!("{call}");
     }

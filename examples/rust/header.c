@@ -16,8 +16,8 @@ static const uint32_t calls[] = {
 
 int main(void)
 {
-    for (uint32_t number = 0; number <= NOS_BAD_INDEX; number++) printf("%u %s\n", number, nos_words(number));
-    printf("%d\n%d\n", NOS_NO_ROOM, NOS_BAD_INDEX);
+    for (uint32_t number = 0; number <= NOS_CODE_OVER_255; number++) printf("%u %s\n", number, nos_words(number));
+    printf("%d\n%d\n%d\n", NOS_NO_ROOM, NOS_BAD_INDEX, NOS_CODE_OVER_255);
     for (size_t i = 0; i < sizeof calls / sizeof calls[0]; i++) printf("%u\n", calls[i]);
     printf("%d\n%d\n", NOS_IN_THE_HOUSE, NOS_IN_THE_FARM);
     return 0;

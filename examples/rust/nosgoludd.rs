@@ -152,8 +152,11 @@ pub const NO_ROOM: u32 = 1;
 /// The refusal number of "Index does not fit this table", which is helped by building the index again.
 pub const BAD_INDEX: u32 = 20;
 
+/// The refusal number of "Code over 255": a text has a number over 255 between "<" and ">", where a byte's has to be.
+pub const CODE_OVER_255: u32 = 21;
+
 /// The refusals in words, by their numbers, as the header's `nos_words` has them.
-pub const WORDS: [&str; 21] = [
+pub const WORDS: [&str; 22] = [
     "Accepted",
     "No room",
     "Bad number: no digit",
@@ -175,6 +178,7 @@ pub const WORDS: [&str; 21] = [
     "Text or table over 65,535 bytes, or a time not of five",
     "Bad field",
     "Index does not fit this table",
+    "Code over 255",
 ];
 
 /// The two tables that names are looked up in, each as by `check_table`: a farm's own variables, and those of the house, which all
@@ -225,7 +229,7 @@ impl fmt::Display for Table {
 /// Why there is no answer.
 #[derive(Clone, Copy, Debug, PartialEq, Eq)]
 pub struct Refusal {
-    /// The number, 1 to 20.
+    /// The number, 1 to 21.
     pub number: u32,
     /// Where, in bytes from 0.
     pub place: usize,
@@ -398,7 +402,8 @@ pub struct Translated<'a> {
     pub end: usize,
 }
 
-/// Translates a text into the start of `out`. Empty tables know no name; no translation takes more than 1,024 look-ups.
+/// Translates a text into the start of `out`. Empty tables know no name; no translation takes more than 1,024 look-ups. A number between
+/// "<" and ">" is a byte, 0 to 255; one over 255 is refused, by `CODE_OVER_255`, in a macro too.
 pub fn translate<'a>(
     text: &[u8],
     Tables { farm, house, index }: Tables,
