@@ -17,6 +17,7 @@ enum { STACK = 1 << 20, FILL = 0xA5, DEEPEST = 16 };
 static uint8_t *stack, farm[NOS_LONGEST], house[NOS_LONGEST], backward[NOS_LONGEST], places[512], out[1 << 19];
 static struct nos_tables tables = {farm, 0, house, 0, places, 0, 0};
 static size_t backward_length;
+static uint8_t *base; /* the "2" of m0's <2_1000001>: by another digit that number is over 255 */
 static char text[NOS_LONGEST];
 static size_t most;
 static ucontext_t here, there;
@@ -108,6 +109,7 @@ static void make_tables(void)
     add_record(house, &tables.house_length, NOS_STRING, "s", "a string of some length, to be copied", 37);
     add_record(house, &tables.house_length, NOS_INTEGER, "i", "\x00\x00\x00\x80", 4);
     add_record(house, &tables.house_length, NOS_MACRO, "m0", "\"a |!|@ <s> \"\"<i> <65> <2_1000001> rows of rye\"", 47);
+    base = house + tables.house_length - strlen("2_1000001> rows of rye\"");
     for (int i = 1; i <= DEEPEST; i++) {
         sprintf(name, "m%d", i);
         sprintf(value, "\"a |!|@ <s><i><36_Z> and so on with more than sixteen bytes<m%d>\"\"|?\"", i - 1);
@@ -180,6 +182,9 @@ static void translations(void)
     expect(translated("<m15>", 0, 1024, 9), NOS_NO_ROOM);
     expect(translated("<m15>", 0, 40, sizeof out), NOS_ALLOWANCE_SPENT);
     expect(translated("<m16>", 0, 1024, sizeof out), NOS_TOO_DEEP);
+    *base = '9';
+    expect(translated("<m15>", 0, 1024, sizeof out), NOS_CODE_OVER_255);
+    *base = '2';
 }
 
 static uint32_t evaluated(void)
