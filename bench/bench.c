@@ -19,6 +19,16 @@ const struct calls proved = {
 #ifdef WITH_BEFORE
 static const struct calls *const sets[] = {&proved, &plain_by_clang, &plain_by_gcc, &before};
 
+/* Up to 1.5.0 a number over 255 was no mistake: <256> gave the byte 0. */
+static void find_remainder(void)
+{
+    uint8_t byte;
+    struct nos_answer answer = before.translate((const uint8_t *)"<256>", 5, NULL, 0, NULL, 0, NULL, 0, 0, 0, 0, &byte, 1);
+    if (answer.number != NOS_ACCEPTED) return;
+    takes_remainder = &before;
+    fprintf(stderr, "bench: the library before takes the remainder by 256 of a number: texts with one over 255 are not compared with it\n");
+}
+
 /* Up to 1.3.0 the library had a zero byte behind the digits of &28: a digit did not fit one byte. */
 static void choose_decimal_call(void)
 {
@@ -29,6 +39,7 @@ static void choose_decimal_call(void)
 }
 #else
 static const struct calls *const sets[] = {&proved, &plain_by_clang, &plain_by_gcc};
+static void find_remainder(void) {}
 static void choose_decimal_call(void) {}
 #endif
 enum { PROVED, CLANG, GCC, BEFORE, SETS = sizeof sets / sizeof *sets, RIVAL = SETS, SIDES = SETS + 1 };
@@ -213,6 +224,7 @@ static void make(const struct work *w)
 /* With a word, only the works whose names have it. */
 int main(int argc, char **argv)
 {
+    find_remainder();
     choose_decimal_call();
     for (size_t i = 0; i < work_count; i++) {
         if (argc > 1 && !strstr(works[i].name, argv[1])) continue;

@@ -21,6 +21,16 @@ static uint8_t odd_byte(void)
     return i < sizeof bytes ? (uint8_t)bytes[i] : (uint8_t)chance(256);
 }
 
+/* Puts a reference to a number over some bytes of the text: one about 255, or such a one with higher bits set. */
+static void put_number(struct asked *a)
+{
+    char mark[16];
+    uint32_t number = 250 + chance(12);
+    if (chance(4) == 0) number |= 1u << (8 + chance(24));
+    size_t length = (size_t)snprintf(mark, sizeof mark, chance(2) ? "<%u>" : "<&%x>", number);
+    if (length <= a->length) memcpy(a->text + chance((uint32_t)(a->length - length + 1)), mark, length);
+}
+
 static void change_text(struct asked *a, const struct input *in)
 {
     size_t start = in->length ? chance((uint32_t)in->length) : 0;
@@ -28,6 +38,7 @@ static void change_text(struct asked *a, const struct input *in)
     if (a->length > in->length - start) a->length = in->length - start;
     memcpy(a->text, in->text + start, a->length);
     for (uint32_t i = chance(6); i > 0 && a->length > 0; i--) a->text[chance((uint32_t)a->length)] = odd_byte();
+    if (chance(4) == 0) put_number(a);
     if (chance(32) == 0) a->length = TOO_LONG;
 }
 
@@ -235,6 +246,15 @@ static void tell(const struct asked *a)
             (int)a->name_length, (const char *)a->name, (int)a->length, (const char *)a->text);
 }
 
+const struct calls *takes_remainder;
+
+/* Whether a set is held to the first one's answers. Up to a number over 255 all read a text alike, so that no answer differs but where the
+ * text is refused for one; through an index it is refused for one only if it is without, too. */
+static int is_held(const struct calls *c, const struct answers *first)
+{
+    return c != takes_remainder || first->translated.number != NOS_CODE_OVER_255;
+}
+
 void check_changed(const struct work *w, struct input *in, const struct calls *const *sets, size_t count)
 {
     static struct asked a;
@@ -243,6 +263,7 @@ void check_changed(const struct work *w, struct input *in, const struct calls *c
         change(&a, in);
         ask(sets[0], &a, &first);
         for (size_t s = 1; s < count; s++) {
+            if (!is_held(sets[s], &first)) continue;
             ask(sets[s], &a, &other);
             const char *what = difference(&first, &other);
             if (!what && sets[s]->build_index) what = difference_by_index(&first, &other);

@@ -51,6 +51,10 @@ extern const size_t work_count;
  * has the same digits and a zero byte on every side. */
 extern uint32_t decimal_call;
 
+/* The library of another commit, where that takes a number over 255 in a text for its remainder by 256; NULL otherwise. It is not held
+ * to the others over a changed text that they refuse for such a number. No other input has one. */
+extern const struct calls *takes_remainder;
+
 /* The same numbers in every run. */
 void restart(void);
 uint32_t chance(uint32_t below);

@@ -498,7 +498,7 @@ static unsigned give_variable(struct work *w, const struct record *v, unsigned d
     }
 }
 
-/* A "<" at r->at: a number or a name, up to its ">". */
+/* A "<" at r->at: the number of a byte, or a name, up to its ">". */
 static unsigned give_reference(struct work *w, struct reading *r, unsigned depth)
 {
     const uint8_t *content = r->text + r->at + 1;
@@ -509,6 +509,7 @@ static unsigned give_reference(struct work *w, struct reading *r, unsigned depth
     if (length == 0 || peek(r, end) != '>') return NOS_BAD_REFERENCE;
     struct nos_number read = read_unsigned(content, length, 1, NOS_NO_LIMIT);
     if (read.number == 0) {
+        if (read.value > 255) return NOS_CODE_OVER_255;
         give(w, (uint8_t)read.value);
     } else {
         if (read.number == NOS_TOO_BIG) return NOS_TOO_BIG;
