@@ -3,8 +3,6 @@
 #include "input.h"
 #include "options.h"
 
-enum { MOST_LOOKUPS = 1024 };
-
 static bool asks_for_standard_input(const char *file) { return file != NULL && is_standard_input(file); }
 
 enum status check_standard_input(const struct request *request, const char *text_file)

@@ -7,6 +7,9 @@
 #include "nosgoludd.h"
 #include "refusal.h"
 
+/* As many look-ups as the library ever allows. */
+enum { MOST_LOOKUPS = 1024 };
+
 struct lookups {
     struct bytes house, farm, index;
     const char *house_file, *farm_file; /* NULL: none, and the table is empty */

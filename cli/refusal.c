@@ -40,6 +40,7 @@ static const struct advice {
     {NOS_OVER_LENGTH, ANY, "it may have 65,535 bytes at most: give it in parts"},
     {NOS_BAD_INDEX, ANY, "it is another table's, or this one's before it was changed: build it anew with `nos table index`"},
     {NOS_BAD_FIELD, ANY, "no such field, or one in small letters: mend it; a percent sign that is to stay one is written %%"},
+    {NOS_CODE_OVER_255, ANY, "a number between \"<\" and \">\" is one byte, 0 to 255: write the number of the byte that is meant"},
 };
 
 static const char *advice_for(uint32_t number, enum counted counted)

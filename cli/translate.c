@@ -1,12 +1,12 @@
 /* nos translate: a text, or each line of a file, translated. */
-#include <string.h>
-
 #include "commands.h"
 #include "lines.h"
 #include "lookups.h"
 #include "nosgoludd.h"
+#include "old_codes.h"
 #include "options.h"
 #include "output.h"
+#include "reference.h"
 #include "unread.h"
 
 #define MOST_TRANSLATED 323583u /* bytes that a translation can have: there is room for every one */
@@ -42,13 +42,9 @@ static struct nos_answer ask(struct work *work, const uint8_t *text, size_t leng
  * when it stands alone. */
 static bool lies_in_macro(struct work *work, const struct subject *text, struct nos_answer answer)
 {
-    if (answer.counted != NOS_IN_THE_TEXT || answer.place >= text->length) return false;
-    const uint8_t *start = text->bytes + answer.place, *name = start + 1;
-    const uint8_t *end = memchr(start, '>', text->length - answer.place);
-    if (end == NULL || *start != '<') return false;
-    struct nos_variable found = nos_look_up(name, (size_t)(end - name), NOS_INDEXED(work->lookups.tables));
-    bool is_macro = found.number == NOS_ACCEPTED && found.kind == NOS_MACRO;
-    return is_macro && ask(work, start, (size_t)(end - start) + 1).number == answer.number;
+    if (answer.counted != NOS_IN_THE_TEXT) return false;
+    struct reference reference = reference_at(&work->lookups, text->bytes, text->length, answer.place);
+    return reference.to == TO_A_MACRO && ask(work, text->bytes + answer.place, reference.length + 2).number == answer.number;
 }
 
 /* An index that comes without its table is refused as any other that does not fit, but it is the table that is missing. NULL: what there
@@ -65,6 +61,7 @@ static void tell_refusal(struct work *work, const struct subject *text, struct n
     struct refusal refusal = {answer.number, answer.place, answer.need, work->room, lies_in_macro(work, text, answer),
                               advice_for_index(work, answer)};
     say_refusal(&subject, &refusal);
+    if (answer.number == NOS_CODE_OVER_255) say_old_codes(&work->lookups, text, work->flags);
     work->refused = true;
 }
 

@@ -5,7 +5,7 @@ import re
 from . import header, variables
 from .commands import ALL, COMMANDS, TABLE_COMMANDS
 from .header import TIME
-from .messages import SAY_LINES, after, no_room, refusal
+from .messages import SAY_LINES, after, gave, no_room, refusal
 from .trial import Case, accepted, refused
 from .variables import FARM, HOUSE, index, integer, macro, string, table
 
@@ -161,8 +161,9 @@ def of_readings():
 
 def of_texts():
     """The examples of nos_translate and of the first page, P10 to P13, and the two lines under them."""
-    for text, out in ((b"<A>b", b"xb"), (b"|!|@", b"\x80"), (b"<321>", b"A"), (b'""""', b'"')):
+    for text, out in ((b"<A>b", b"xb"), (b"|!|@", b"\x80"), (b"<65>", b"A"), (b'""""', b'"')):
         yield accepted(SMALL, out, given=text, files=LETTERS)
+    yield refused(SMALL, refusal(21, 0, "the text", b"<321>", told=[gave("321", 321, 0)]), given=b"<321>", files=LETTERS)
     yield refused(SMALL, refusal(8, 5, "the text", b'"b"  c'), given=b'"b"  c', files=LETTERS)
     yield accepted(f"{SMALL} --space-ends", b"b", [after(3, 3), SAY_LINES], given=b'"b"  c', files=LETTERS)
     for text, number, place in ((b"b<m>", 7, 1), (b"b<c>", 10, 1), (b"<a><a><a>", 12, 6), (b"<4294967296>", 4, 0),

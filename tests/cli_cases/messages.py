@@ -64,12 +64,20 @@ class Something(NamedTuple):
         return None if self.word in "\n".join(lines) else f"{self.word} is not in {lines}"
 
 
-def refusal(number, place, of, shown=None, advice=ADVICE):
-    """The lines of a refusal. `shown` is the line that the place is in, where that is to be shown."""
+def refusal(number, place, of, shown=None, advice=ADVICE, told=()):
+    """The lines of a refusal. `shown` is the line that the place is in, where that is to be shown; `told` is what is told of the old
+    rule, where the number is 21."""
     lines = [f"refused {number}, {WORDS[number]}, at byte {place} of {of}"]
     if shown is not None:
         lines.append(Shown(shown, place))
-    return [*lines, advice, NOTHING_WRITTEN]
+    return [*lines, advice, *told, NOTHING_WRITTEN]
+
+
+def gave(content, value, place, of="the text"):
+    """The line that tells which byte a number over 255 gave before 1.6.0."""
+    byte = value % 256
+    character = f', "{chr(byte)}"' if 33 <= byte <= 126 else ""
+    return f"before 1.6.0 <{content}>, at byte {place} of {of}, gave byte {byte}{character}"
 
 
 def counted(number, one, more):
@@ -109,7 +117,8 @@ def fault(says, err):
         return "the last line has no end"
     at = 0
     for entry in says:
-        taken, wrong = _take(entry, lines[at:])
+        # the lines behind an entry's own are left out, since a refusal can have thousands
+        taken, wrong = _take(entry, lines[at:] if isinstance(entry, Something) else lines[at:at + 2])
         if wrong:
             return f"line {at + 1}: {wrong}"
         at += taken
@@ -124,6 +133,7 @@ def _take(entry, lines):
         return 2, entry.fault(*lines[:2]) if len(lines) > 1 else f"{entry} is missing"
     if not lines:
         return 1, f"{entry!r} is missing"
-    pattern = re.escape(entry) if isinstance(entry, str) else entry.pattern
-    fits = re.fullmatch("nos: " + pattern, lines[0])
-    return 1, None if fits else f"expected {pattern!r}, seen {lines[0]!r}"
+    if isinstance(entry, str):
+        return 1, None if lines[0] == f"nos: {entry}" else f"expected {entry!r}, seen {lines[0]!r}"
+    fits = re.fullmatch("nos: " + entry.pattern, lines[0])
+    return 1, None if fits else f"expected {entry.pattern!r}, seen {lines[0]!r}"

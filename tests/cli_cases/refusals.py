@@ -7,7 +7,7 @@ from typing import NamedTuple
 from . import header
 from .commands import ALL, WITH_OUTPUT
 from .header import LONG, TIME
-from .messages import ADVICE, IN_A_MACRO, NOT_IN_A_MACRO, NOTHING_WRITTEN, Shown, by_strict, no_room, refusal
+from .messages import ADVICE, IN_A_MACRO, NOT_IN_A_MACRO, NOTHING_WRITTEN, Shown, by_strict, gave, no_room, refusal
 from .trial import Case, refused, words
 from .variables import FARM, HOUSE, MOST_RECORDS, filled, index, integer, macro, string, table, text
 
@@ -62,8 +62,8 @@ def of_tables(command, argument, given=b""):
                       {"farm": farm_bytes, "house": house_bytes}, given)
 
 
-def text_is_refused(number, place, given, options=BOTH, files=SHORT, advice=NOT_IN_A_MACRO):
-    says = refusal(number, place, "the text", given, advice)
+def text_is_refused(number, place, given, options=BOTH, files=SHORT, advice=NOT_IN_A_MACRO, told=()):
+    says = refusal(number, place, "the text", given, advice, told)
     return Refusal("translate", number, words(f"translate {options}"), says, files, given)
 
 
@@ -73,6 +73,9 @@ def of_macros():
         files = {"farm": table(macro(b"m", value), macro(b"outer", b"x<m>")), "house": b""}
         for given, place in ((b"b<m>", 1), (b"bc <Outer> <nmae>", 3)):
             yield text_is_refused(number, place, given, files=files, advice=IN_A_MACRO)
+    files = {"farm": table(macro(b"m", b"<256>"), macro(b"outer", b"x<m>")), "house": b""}
+    for given, place in ((b"b<m>", 1), (b"bc <Outer> <nmae>", 3)):
+        yield text_is_refused(21, place, given, files=files, advice=IN_A_MACRO, told=[gave("256", 256, 0, "the farm's macro m")])
 
 
 def of_index():
@@ -96,6 +99,8 @@ def of_translate():
     yield text_is_refused(9, 1, b"a<")
     yield text_is_refused(9, 2, b"ab<a")
     yield text_is_refused(4, 0, b"<4294967296>")
+    yield text_is_refused(21, 0, b"<321>", told=[gave("321", 321, 0)])
+    yield text_is_refused(21, 3, b"<a><256>|5", f"{BOTH} --allowance 1 --room 0", told=[gave("256", 256, 3)])
     yield text_is_refused(11, 1, b"b<self>", "--table deep", {"deep": DEEP}, ADVICE)
     yield text_is_refused(11, 3, b"<m><m0>", "--table deep --farm farm", {"deep": DEEP, "farm": table(macro(b"m", b"x"))}, ADVICE)
     yield text_is_refused(12, 6, b"<a><a><a>", f"{BOTH} --allowance 2")
@@ -239,7 +244,9 @@ def every_refusal():
 def as_line(one):
     """The lines that a refused text has with --lines, as the second line of a file whose first one is empty."""
     first = one.says[0]
-    return [f"{first}, in line 2" if one.number == 1 else first.replace("the text", "line 2"), *one.says[1:]]
+    if one.number == 1:
+        return [f"{first}, in line 2", *one.says[1:]]
+    return [entry.replace("the text", "line 2") if isinstance(entry, str) else entry for entry in one.says]
 
 
 def tried(one):
