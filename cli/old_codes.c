@@ -86,12 +86,12 @@ static bool pass(struct walk *walk, const struct reference *reference, size_t pl
 }
 
 /* What the rest of a text has to begin with for the library to read it as it stood in the text, and not to skip spaces or to take a
- * quote for one that opens: the quote of a quoted text, or a byte that means nothing. */
-static uint8_t opener_of(const uint8_t *text, size_t length, uint32_t flags)
+ * quote for one that opens: the quote of a quoted text, or a byte that means nothing. With --quote-plain a quote is such a byte too. */
+static uint8_t opener_of(const uint8_t *text, size_t length)
 {
     size_t first = 0;
     while (first < length && text[first] == ' ') first++;
-    return first < length && text[first] == '"' && (flags & NOS_QUOTE_PLAIN) == 0 ? '"' : '.';
+    return first < length && text[first] == '"' ? '"' : '.';
 }
 
 /* Without room a text that is read to its end is refused by No room, or accepted where it gives nothing. */
@@ -103,7 +103,7 @@ static struct nos_answer read_from(const struct walk *walk, const struct bytes *
 /* Goes through a text, the user's or a macro's value. False where the old reading would have been refused in it. */
 static bool go_through(struct walk *walk, const uint8_t *text, size_t length, uint32_t flags, const char *where)
 {
-    const uint8_t opener = opener_of(text, length, flags);
+    const uint8_t opener = opener_of(text, length);
     struct bytes rest = {NULL, 0, 0}; /* a copy, in which the opener takes the place of each ">" that was passed */
     bytes_append(&rest, text, length);
     size_t start = 0;

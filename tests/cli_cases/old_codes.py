@@ -97,7 +97,8 @@ def of_quotes():
             (b'"<321>""""<256>"""', ("321", 321, 1), ("256", 256, 10)), (b'"<321>  "" x<256>"', ("321", 321, 1), ("256", 256, 12)),
             # what stands behind the closing quote is refused by 8, an open quote at the end
             (b'"<321>"<256>', ("321", 321, 1)), (b'"<321>" <256>', ("321", 321, 1)), (b'"<321>""" <256>', ("321", 321, 1)),
-            (b'"<321><256>', ("321", 321, 1), ("256", 256, 6)), (b'"<321>""<256>', ("321", 321, 1), ("256", 256, 8)),
+            (b'  "<321>" <256>', ("321", 321, 3)), (b'"<321><256>', ("321", 321, 1), ("256", 256, 6)),
+            (b'"<321>""<256>', ("321", 321, 1), ("256", 256, 8)),
             # no quote opens behind the start
             (b'<321>"a"b<256>', ("321", 321, 0), ("256", 256, 9)), (b'<321>"<256>', ("321", 321, 0), ("256", 256, 6)),
             (b'<321>  "a" b<256>', ("321", 321, 0), ("256", 256, 12)), (b'a "<321>" <256>', ("321", 321, 3), ("256", 256, 10)),
@@ -253,7 +254,8 @@ def of_many_macros():
     told[-1] = gave("&100", 256, 0, f"the house's macro m{count - 1}")
     files = {"farm": table(*farm), "house": table(*house), "i": index(*house)}
     for args in (BOTH, f"{BOTH} --index i"):
-        yield over(b"<m0><m1><256>", 0, *told, gave("256", 256, 8), args=args, advice=IN_A_MACRO, files=files)
+        given = b"".join(b"<m%d>" % number for number in (0, count - 1, 300, 1)) + b"<256>"
+        yield over(given, 0, *told, gave("256", 256, len(given) - 5), args=args, advice=IN_A_MACRO, files=files)
 
 
 def of_many_references():

@@ -105,8 +105,10 @@ def of_translate():
     yield text_is_refused(11, 3, b"<m><m0>", "--table deep --farm farm", {"deep": DEEP, "farm": table(macro(b"m", b"x"))}, ADVICE)
     yield text_is_refused(12, 6, b"<a><a><a>", f"{BOTH} --allowance 2")
     yield text_is_refused(12, 0, b"<a>", f"{BOTH} --allowance=0")
+    yield text_is_refused(12, 3, b"<a><m>", "--table t --allowance 1", {"t": table(string(b"a"), macro(b"m", b"x"))})
     yield text_is_refused(7, 1, b"a|5")
     yield text_is_refused(7, 3, b"abc|!|!a")
+    yield text_is_refused(7, 0, b"|5m>", "--table t", {"t": table(macro(b"5m", b"|5"))})
     yield from of_macros()
     indexed = {**SHORT, "i": index(string(b"a", b"y"), macro(b"m", b"<A>|"), integer(b"n", 7))}
     yield text_is_refused(10, 3, b"<a><nmae>", f"{BOTH} --index i", indexed)
