@@ -161,7 +161,7 @@ def of_readings():
 
 def of_texts():
     """The examples of nos_translate and of the first page, P10 to P13, and the two lines under them."""
-    for text, out in ((b"<A>b", b"xb"), (b"|!|@", b"\x80"), (b"<65>", b"A"), (b'""""', b'"')):
+    for text, out in ((b"<A>b", b"xb"), (b"|!|@", b"\x80"), (b"<65>", b"A"), (b"<&FF>", b"\xff"), (b'""""', b'"')):
         yield accepted(SMALL, out, given=text, files=LETTERS)
     yield refused(SMALL, refusal(21, 0, "the text", b"<321>", told=[gave("321", 321, 0)]), given=b"<321>", files=LETTERS)
     yield refused(SMALL, refusal(8, 5, "the text", b'"b"  c'), given=b'"b"  c', files=LETTERS)

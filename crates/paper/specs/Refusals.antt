@@ -76,9 +76,10 @@ longest = 65535
 abbrev pub tooLong : List ℕ → Bool
 tooLong bytes = ltb longest (length bytes)
 
--- a number that a text refers to stands for one byte
+-- a number between "<" and ">" is one byte
 abbrev pub greatest-code : ℕ
 greatest-code = 255
 
+-- one that is none
 abbrev pub overCode : ℕ → Bool
 overCode number = ltb greatest-code number

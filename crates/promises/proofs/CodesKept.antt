@@ -26,7 +26,7 @@ use Rattle.gs.specs.Translations.{readingOf, translatedAnswer}
 use Rattle.gs.specs.declared.Translated.{Translated}
 use Rattle.gs.proofs.Answers.{good-answer, written-buffer, kept-buffer}
 use Rattle.promises.specs.Allowed.{Translates}
-use Rattle.promises.specs.Codes.{Met, Content, referring, OneNumber, Alone, InAMacro}
+use Rattle.promises.specs.Codes.{Met, Unread, Content, referring, OneNumber, Alone, InAMacro}
 use Rattle.promises.proofs.TwoTablesKept.{macro-of-either}
 
 -- what a content gives that the reader takes
@@ -52,11 +52,23 @@ content-named names expand content place rest kept at e n =
     ap (λ r. contentGives names expand r content place rest) e ∙ sym (other kept too-big _ _ n refl)
 
 pub number-met : Met
-unfolding symbolGives
-number-met names expand text at start end next number behind rest read =
-    let name = take (end - start) (drop start text) in (
-      content-byte names expand name at number behind (rest next) read,
-      content-over names expand name at number behind (rest next) read,
+unfolding symbolGives symbolsFrom
+number-met names expand text flags mode more at start end next number behind symbol read =
+    let name = take (end - start) (drop start text) in
+    let rest = symbolsFrom names more expand text flags mode in
+    let here = ap (λ s. symbolGives names expand text at s rest) symbol in (
+      λ h. here ∙ content-byte names expand name at number behind (rest next) read h,
+      λ h. here ∙ content-over names expand name at number behind (rest next) read h,
+    )
+
+pub number-unread : Unread
+unfolding symbolGives symbolsFrom contentGives
+number-unread names expand text flags mode more at start end next kept place symbol read =
+    let name = take (end - start) (drop start text) in
+    let rest = symbolsFrom names more expand text flags mode in
+    let here = ap (λ s. symbolGives names expand text at s rest) symbol in (
+      λ h. here ∙ ap (λ r. contentGives names expand r name at (rest next)) (read ∙ ap (λ k. refused k place) h),
+      λ n. here ∙ content-named names expand name at (rest next) kept place read n,
     )
 
 -- a run that takes in the whole of a list ends where the next one begins

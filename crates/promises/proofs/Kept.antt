@@ -110,6 +110,7 @@ promises =
       translate-spent = Translations.spent-comes;
       translate-second-ask = Translations.asked-again;
       number-met = Codes.number-met;
+      number-unread = Codes.number-unread;
       number-alone = Codes.number-alone;
       number-in-a-macro = Codes.number-in-a-macro;
       evaluate-tied = Contracts.evaluate;

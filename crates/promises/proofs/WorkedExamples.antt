@@ -49,7 +49,7 @@ use Rattle.arithmetic.specs.Values.{signed, sum, difference, product, quotient,
 use Rattle.promises.specs.Allowed.{Converts, Dates, Builds, LooksUp, Translates, Evaluates}
 use Rattle.promises.specs.Conversions as Numbers
 use Rattle.promises.specs.Dates.{Fit, fieldsIn, needed}
-use Rattle.promises.specs.Examples.{Row, writes, gives, lacks, dates, mistakes, reads, refuses, translates, stops, evaluates, fails, finds, indexes, spares, through, misfits, leads, selfNaming, named-x, numbered-7, naming-a, named-256, over-in-a-macro, letter-and-sign, sign-first, with-a-beginning, shortest-last, first-time, last-time, february-1900, march-1900, end-of-1999, end-of-2000, february-2000, Holds, All, examples}
+use Rattle.promises.specs.Examples.{Row, writes, gives, lacks, dates, mistakes, reads, refuses, translates, stops, evaluates, fails, finds, indexes, spares, through, misfits, leads, selfNaming, named-x, numbered-7, naming-a, named-256, named-256x, over-in-a-macro, letter-and-sign, sign-first, with-a-beginning, shortest-last, first-time, last-time, february-1900, march-1900, end-of-1999, end-of-2000, february-2000, Holds, All, examples}
 use Rattle.promises.proofs.ConversionsKept as Conversions
 use Rattle.promises.proofs.DatesKept as DatesOf
 
@@ -193,6 +193,9 @@ number-references : (rows : List Row) → All rows → All (
     ∷ stops "<36_74>" [] [] 0 1 code-over-255 in-text 0
     ∷ stops "<256>" [] named-256 1 1 code-over-255 in-text 0
     ∷ stops "<256x>" [] named-256 1 1 unknown-name in-text 0
+    ∷ translates "<256x>" [] named-256x 1 1 (bytes "y") 6 0
+    ∷ stops "a<256>" [] [] 0 0 code-over-255 in-text 1
+    ∷ stops "\"<256>\"" [] [] 0 1 code-over-255 in-text 1
     ∷ stops "<4294967295>" [] [] 0 1 code-over-255 in-text 0
     ∷ stops "<4294967296>" [] [] 0 1 too-big in-text 0
     ∷ stops "<256" [] [] 0 1 bad-reference in-text 0
@@ -216,14 +219,23 @@ number-references rows others = (
               (
                 translated-row "<256x>" [] named-256 1,
                 (
-                  translated-row "<4294967295>" [] [] 0,
+                  translated-row "<256x>" [] named-256x 1,
                   (
-                    translated-row "<4294967296>" [] [] 0,
+                    translated-row "a<256>" [] [] 0,
                     (
-                      translated-row "<256" [] [] 0,
+                      translated-row "\"<256>\"" [] [] 0,
                       (
-                        translated-row "xy<m>" [] over-in-a-macro 2,
-                        others,
+                        translated-row "<4294967295>" [] [] 0,
+                        (
+                          translated-row "<4294967296>" [] [] 0,
+                          (
+                            translated-row "<256" [] [] 0,
+                            (
+                              translated-row "xy<m>" [] over-in-a-macro 2,
+                              others,
+                            ),
+                          ),
+                        ),
                       ),
                     ),
                   ),
@@ -454,5 +466,5 @@ four-bytes buf after r long c = mistakes-row (0 ∷ 0 ∷ 0 ∷ 0 ∷ []) (bytes
 -- the table, whole
 pub worked-examples : All examples
 worked-examples =
-    let others : All (drop 23 examples) = (p13, (p13-farm, (p14, (p15, (without-a-zero-byte, (lacks-a-character, (with-a-zero-byte, (lacks-its-zero-byte, (a-byte-stays, (empty-text, (string-hides, (integer-hides, (integer-counts, (string-counts-not, (found-in-the-farm, (found-in-the-house, (sign-before-letter, (beginning-first, (first-byte-first, (no-entry, (a-byte-short, (both-through, (sign-found, (letter-found, (entries-exchanged, (longer-index, (macro-of-the-house, (macro-of-the-farm, (macro-spends-two, (farm-told-first, (house-told, (names-itself-thrice, (names-itself, (names-itself-behind, (zero-divisor-unread, (first-date, (last-date, (day-in-2000, (last-of-february, (first-of-march, (day-366, (day-365, (percent-signs, (percent-sign-left, (small-letters, (half-a-name, (room-too-small, (empty-format, (four-bytes, tt))))))))))))))))))))))))))))))))))))))))))))))))) in
-    (p1, (p2, (p3, (p4, (p5, (p6, (p7, (p8, (p9, (p10, (p11, number-references (drop 23 examples) others)))))))))))
+    let others : All (drop 26 examples) = (p13, (p13-farm, (p14, (p15, (without-a-zero-byte, (lacks-a-character, (with-a-zero-byte, (lacks-its-zero-byte, (a-byte-stays, (empty-text, (string-hides, (integer-hides, (integer-counts, (string-counts-not, (found-in-the-farm, (found-in-the-house, (sign-before-letter, (beginning-first, (first-byte-first, (no-entry, (a-byte-short, (both-through, (sign-found, (letter-found, (entries-exchanged, (longer-index, (macro-of-the-house, (macro-of-the-farm, (macro-spends-two, (farm-told-first, (house-told, (names-itself-thrice, (names-itself, (names-itself-behind, (zero-divisor-unread, (first-date, (last-date, (day-in-2000, (last-of-february, (first-of-march, (day-366, (day-365, (percent-signs, (percent-sign-left, (small-letters, (half-a-name, (room-too-small, (empty-format, (four-bytes, tt))))))))))))))))))))))))))))))))))))))))))))))))) in
+    (p1, (p2, (p3, (p4, (p5, (p6, (p7, (p8, (p9, (p10, (p11, number-references (drop 26 examples) others)))))))))))

@@ -2,13 +2,13 @@
 use mathlib.Core.Path.{_≡_}
 use mathlib.Core.Bool.{true}
 use mathlib.Core.List.{List, [], _∷_, _++_}
-use Prim.Native.Nat.{ℕ, _-_, _≤_, _<_}
+use Prim.Native.Nat.{ℕ, suc, _-_, _≤_, _<_}
 use lib.ListN.{length, take, drop}
 use Rattle.paper.specs.Answers.{in-text, refusal}
 use Rattle.paper.specs.Bytes.{runOf, nameByte}
 use Rattle.paper.specs.Refusals.{too-big, code-over-255, greatest-code}
-use Rattle.paper.specs.Traces.{Trace, faults, gives}
-use Rattle.paper.specs.declared.faults.Fault.the-variants.{CodeOver255}
+use Rattle.paper.specs.Traces.{faults, gives, asks}
+use Rattle.paper.specs.declared.faults.Fault.the-variants.{TooBig, CodeOver255}
 use Rattle.paper.specs.declared.Holder.{Holder}
 use Rattle.reader.specs.Reading.{reading, refused, valued, no-limit}
 use Rattle.records.specs.Records.{Entry}
@@ -16,20 +16,33 @@ use Rattle.records.specs.declared.kinds.Kind.the-variants.{Macro}
 use Rattle.variables.specs.Names.{Meaning}
 use Rattle.variables.specs.Judgements.{good, judgement}
 use Rattle.indexes.specs.Indexes.{Given, fits}
+use Rattle.symbols.specs.Symbols.{symbolAt}
+use Rattle.symbols.specs.declared.forms.Mode.{Mode}
 use Rattle.symbols.specs.declared.forms.Symbol.the-variants.{Reference}
-use Rattle.gs.specs.Readings.{Expand, symbolGives}
+use Rattle.gs.specs.Readings.{Expand, nameGives, symbolsFrom}
 use Rattle.gs.specs.Translations.{translatedAnswer}
 use Rattle.gs.specs.declared.Translated.{Translated}
 use Rattle.promises.specs.Allowed.{Translates}
 use Rattle.promises.specs.TwoTables.{Held}
 
--- wherever a reading meets the reference, in a text of any depth, whatever names mean: one byte, or a fault at its "<", and no look-up
+-- wherever a reading meets the reference, in a text of any depth, behind whatever stands before it, quoted or not, whatever names mean: one
+-- byte, or a fault at its "<", and no look-up
 abbrev pub Met : Type 0
 Met =
-    (names : List ℕ → Meaning) (expand : Expand) (text : List ℕ) (at start end next number behind : ℕ) (rest : ℕ → Trace)
-    → reading (take (end - start) (drop start text)) true no-limit ≡ valued number behind
-    → let met = symbolGives names expand text at (Reference start end next) rest in
-    (number ≤ greatest-code → met ≡ gives number (rest next)) × (greatest-code < number → met ≡ faults CodeOver255 at)
+    (names : List ℕ → Meaning) (expand : Expand) (text : List ℕ) (flags : ℕ) (mode : Mode) (more at start end next number behind : ℕ)
+    → symbolAt text flags mode at ≡ Reference start end next → reading (take (end - start) (drop start text)) true no-limit ≡ valued number behind
+    → let met = symbolsFrom names (suc more) expand text flags mode at in
+    (number ≤ greatest-code → met ≡ gives number (symbolsFrom names more expand text flags mode next)) × (greatest-code < number → met ≡ faults CodeOver255 at)
+
+-- and where the reader refuses the content: by 4 a fault at its "<", otherwise it is a name
+abbrev pub Unread : Type 0
+Unread =
+    (names : List ℕ → Meaning) (expand : Expand) (text : List ℕ) (flags : ℕ) (mode : Mode) (more at start end next kept place : ℕ)
+    → let name = take (end - start) (drop start text) in
+    symbolAt text flags mode at ≡ Reference start end next → reading name true no-limit ≡ refused kept place
+    → let met = symbolsFrom names (suc more) expand text flags mode at in
+    (kept ≡ too-big → met ≡ faults TooBig at)
+    × ((kept ≡ too-big → ⊥) → met ≡ asks name (nameGives expand (names name) name at (symbolsFrom names more expand text flags mode next)))
 
 -- one or more bytes each allowed in a name
 pub record Content (content : List ℕ) : Type 0 where

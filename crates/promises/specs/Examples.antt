@@ -140,6 +140,10 @@ naming-a = 86 ∷ 82 ∷ 2 ∷ 1 ∷ 4 ∷ bytes "m<a>!"
 abbrev pub named-256 : List ℕ
 named-256 = 86 ∷ 82 ∷ 0 ∷ 3 ∷ 1 ∷ bytes "256x"
 
+-- one record: the string 256x, whose value is `y`
+abbrev pub named-256x : List ℕ
+named-256x = 86 ∷ 82 ∷ 0 ∷ 4 ∷ 1 ∷ bytes "256xy"
+
 -- two records: the macro m, whose value is `!<n>`, and the macro n, whose value is `<256>`
 abbrev pub over-in-a-macro : List ℕ
 over-in-a-macro = 86 ∷ 82 ∷ 2 ∷ 1 ∷ 4 ∷ bytes "m!<n>" ++ (86 ∷ 82 ∷ 2 ∷ 1 ∷ 5 ∷ bytes "n<256>")
@@ -219,6 +223,9 @@ examples =
     -- a variable named 256 is not looked up; 256x is a name
     ∷ stops "<256>" [] named-256 1 1 code-over-255 in-text 0
     ∷ stops "<256x>" [] named-256 1 1 unknown-name in-text 0
+    ∷ translates "<256x>" [] named-256x 1 1 (bytes "y") 6 0
+    ∷ stops "a<256>" [] [] 0 0 code-over-255 in-text 1
+    ∷ stops "\"<256>\"" [] [] 0 1 code-over-255 in-text 1
     -- the greatest number that the reader takes, and one more; and a reference that is bad
     ∷ stops "<4294967295>" [] [] 0 1 code-over-255 in-text 0
     ∷ stops "<4294967296>" [] [] 0 1 too-big in-text 0

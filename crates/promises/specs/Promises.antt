@@ -116,6 +116,7 @@ pub record Promises : Type 0 where
   pub translate-second-ask : Translations.SecondAsk
   -- a number that a text refers to
   pub number-met : Codes.Met
+  pub number-unread : Codes.Unread
   pub number-alone : Codes.Alone
   pub number-in-a-macro : Codes.InAMacro
   -- `evaluate`

@@ -85,8 +85,8 @@ fn refusal_of(answer: Reading) -> u8
     }
 }
 
-// What the content of a reference stands for, over two tables, some keys and an index: a value becomes a byte where it is one, otherwise it
-// goes the name path.
+// What the content of a reference stands for, over two tables, some keys and an index: a value becomes a byte, and over 255 it is refused;
+// what the reader refuses goes the name path.
 pub fn resolve<'a>(
     content: &[u8],
     farm: &'a [u8],

@@ -1,4 +1,4 @@
--- `resolve` meets its contract: a value becomes a byte where it is one, and every other answer goes the name path.
+-- `resolve` meets its contract: a value becomes a byte, or is over 255, and what the reader refuses goes the name path.
 use mathlib.Core.Path.{_≡_, refl, ap, sym, _∙_}
 use mathlib.Core.Bool.{true, cond}
 use mathlib.Core.List.{List}
