@@ -12,3 +12,6 @@ mod met;
 pub mod owners;
 pub mod texts;
 mod wrongs;
+
+#[cfg(test)]
+pub use agreed::Text;

@@ -2,6 +2,7 @@
 //! cases changes.
 
 use crate::answers::answer;
+use crate::cases::indexes::Text;
 use crate::cases::kinds::{self, assert_met};
 use crate::cases::operation;
 use crate::gs::{translate, until_end, Flags};
@@ -13,23 +14,24 @@ use crate::variables::{Found, Kind as RecordKind, LentTables, Tables};
 
 /// A translation with its answer.
 struct Met {
-    text: Vec<u8>,
+    asked: Text,
     tables: LentTables,
-    flags: u32,
-    allowance: u32,
-    room: usize,
     answer: String,
 }
 
 type Kind = kinds::Kind<Met>;
 
 /// Spellings that fixed cases have without an index, and random ones with an index and without.
-const SPELLED: [Kind; 15] = [
+const SPELLED: [Kind; 16] = [
     ("255 in decimal", |met| met.gives(b"255", 255)),
     ("255 in hex", |met| met.gives(b"&", 255)),
     ("a byte in base 2", |met| met.gives_any(b"2_")),
     ("a byte in base 36", |met| met.gives_any(b"36_")),
-    ("a byte behind zeros", |met| met.gives_any(b"00")),
+    ("a byte behind zeros", |met| met.gives_any(b"&0")),
+    ("a base behind zeros", |met| {
+        met.accepted()
+            .any(|content| content.starts_with(b"0") && content.contains(&b'_'))
+    }),
     ("a byte by capitals", |met| {
         met.accepted()
             .any(|content| content.iter().any(u8::is_ascii_uppercase))
@@ -45,7 +47,7 @@ const SPELLED: [Kind; 15] = [
     ("256 in decimal", |met| met.refuses(b"256", 256)),
     ("256 in hex", |met| met.refuses(b"&", 256)),
     ("a code behind zeros", |met| {
-        met.code().is_some_and(|content| content.starts_with(b"0"))
+        met.code().is_some_and(|content| content.starts_with(b"&0"))
     }),
     ("a code in another base", |met| {
         met.code().is_some_and(|content| content.contains(&b'_'))
@@ -70,25 +72,29 @@ const EVERYWHERE: [Kind; 11] = [
         met.is_named_by(Slice::House)
     }),
     ("a code without a look-up", |met| {
-        met.code().is_some() && met.allowance == 0
+        met.code().is_some() && met.asked.allowance == 0
     }),
     ("a code without room", |met| {
-        met.code().is_some() && met.room == 0
+        met.code().is_some() && met.asked.room == 0
     }),
     ("a code in quotes", |met| {
-        let behind_spaces = met.text.trim_ascii_start();
-        met.code().is_some() && behind_spaces.starts_with(b"\"") && met.flags >> 31 == 0
+        let behind_spaces = met.asked.text.trim_ascii_start();
+        met.code().is_some() && behind_spaces.starts_with(b"\"") && met.asked.flags >> 31 == 0
     }),
     ("a code behind a byte's number", |met| {
         let place = met.place("no 21 t ").unwrap_or(0);
-        met.code().is_some() && contents(&met.text[..place]).any(|content| value(content).is_some())
+        met.code().is_some()
+            && contents(&met.asked.text[..place]).any(|content| value(content).is_some())
     }),
     ("a code before another fault", |met| {
         met.code().is_some() && met.is_faulty_behind()
     }),
     ("a code behind an ordinary bar", |met| {
         let place = met.place("no 21 t ").unwrap_or(0);
-        met.code().is_some() && place > 0 && met.text[place - 1] == b'|' && met.flags >> 30 & 1 == 1
+        met.code().is_some()
+            && place > 0
+            && met.asked.text[place - 1] == b'|'
+            && met.asked.flags >> 30 & 1 == 1
     }),
     ("a code in a macro", |met| {
         met.macro_refused().is_some_and(|value| has_code(&value))
@@ -97,13 +103,13 @@ const EVERYWHERE: [Kind; 11] = [
         met.macro_refused().is_some_and(|value| !has_code(&value))
     }),
     ("a code behind the end", |met| {
-        let read = until_end(&met.text).len();
-        met.is("ok") && has_code(&met.text[read..])
+        let read = until_end(&met.asked.text).len();
+        met.is("ok") && has_code(&met.asked.text[read..])
     }),
 ];
 
 /// Kinds that are each one of their kind.
-const FIXED: [Kind; 5] = [
+const FIXED: [Kind; 9] = [
     ("every byte", |met| {
         let mut values: Vec<u32> = met.accepted().filter_map(value).collect();
         values.sort();
@@ -116,12 +122,24 @@ const FIXED: [Kind; 5] = [
     ("a code behind more zeros than a name is long", |met| {
         met.refuses(&[b'0'; 33], 256)
     }),
+    ("the greatest code in base 2", |met| {
+        met.refuses(b"2_1", u32::MAX)
+    }),
+    ("a code where a space ends the text", |met| {
+        met.code().is_some() && met.asked.flags == Flags::SPACE_ENDS
+    }),
+    ("a code where a bar is ordinary", |met| {
+        met.code().is_some() && met.asked.flags == Flags::BAR_IS_ORDINARY
+    }),
+    ("a code where quotes are ordinary", |met| {
+        met.code().is_some() && met.asked.flags == Flags::QUOTES_ARE_ORDINARY
+    }),
     ("a code's number that is no whole one", |met| {
         met.content_refused("no 10 t ") == Some(b"256x")
     }),
     ("a code without its end", |met| {
         met.place("no 9 t ")
-            .is_some_and(|place| met.text[place..] == *b"<256")
+            .is_some_and(|place| met.asked.text[place..] == *b"<256")
     }),
 ];
 
@@ -147,23 +165,10 @@ fn has_code(text: &[u8]) -> bool {
 impl Met {
     fn new(case: Case) -> Self {
         let answer = answer(&case);
-        let Case::Trans {
-            text,
-            tables,
-            flags,
-            allowance,
-            room,
-            ..
-        } = case
-        else {
-            panic!("no translation: {case}");
-        };
+        let (tables, _, asked) = Text::taken_from(case);
         Met {
-            text,
+            asked,
             tables,
-            flags,
-            allowance,
-            room,
             answer,
         }
     }
@@ -174,8 +179,12 @@ impl Met {
 
     /// The numbers in an accepted text, of which no bar makes something else.
     fn accepted(&self) -> impl Iterator<Item = &[u8]> {
-        let counts = self.is("ok") && !self.text.contains(&b'|');
-        let read: &[u8] = if counts { until_end(&self.text) } else { b"" };
+        let counts = self.is("ok") && !self.asked.text.contains(&b'|');
+        let read: &[u8] = if counts {
+            until_end(&self.asked.text)
+        } else {
+            b""
+        };
         contents(read).filter(|content| value(content).is_some())
     }
 
@@ -197,7 +206,7 @@ impl Met {
     /// The content of the text's own reference that is refused.
     fn content_refused(&self, start: &str) -> Option<&[u8]> {
         let place = self.place(start)?;
-        contents(&self.text[place..]).next()
+        contents(&self.asked.text[place..]).next()
     }
 
     /// The text's own reference that is refused for its code.
@@ -230,8 +239,16 @@ impl Met {
     fn is_faulty_behind(&self) -> bool {
         let place = self.place("no 21 t ").unwrap_or(0);
         let length = self.code().map_or(0, <[u8]>::len);
-        let behind = &self.text[place + length + 2..];
-        translate(behind, &self.tables, None, Flags(self.flags), 0, 1_000).is_err()
+        let behind = &self.asked.text[place + length + 2..];
+        translate(
+            behind,
+            &self.tables,
+            None,
+            Flags(self.asked.flags),
+            0,
+            1_000,
+        )
+        .is_err()
     }
 }
 
