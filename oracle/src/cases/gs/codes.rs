@@ -92,10 +92,13 @@ fn edge(value: u64) -> Vec<Case> {
         .collect()
 }
 
-/// 255 and 256 in one base, each of them behind a byte of that base.
+/// 255 and 256 in one base, each of them behind a byte of that base, by capitals in odd bases.
 fn edges_of_base(base: u64) -> Vec<Case> {
     let spelled = |value| {
-        let digits = plain_digits(value, base);
+        let mut digits = plain_digits(value, base);
+        if base % 2 == 1 {
+            digits.make_ascii_uppercase();
+        }
         let spelling = [format!("{base}_").as_bytes(), &digits].concat();
         number(value, spelling)
     };

@@ -34,11 +34,11 @@ const SPELLED: [Kind; 16] = [
     }),
     ("a byte by capitals", |met| {
         met.accepted()
-            .any(|content| content.iter().any(u8::is_ascii_uppercase))
+            .any(|content| content.iter().any(|byte| matches!(byte, b'G'..=b'Z')))
     }),
     ("a byte by small letters", |met| {
         met.accepted()
-            .any(|content| content.iter().any(u8::is_ascii_lowercase))
+            .any(|content| content.iter().any(|byte| matches!(byte, b'g'..=b'z')))
     }),
     ("a byte that would end a text", |met| {
         met.accepted()
@@ -279,6 +279,9 @@ fn assert_few_hidden(cases: &[Met]) {
     };
     let refused = share(|met| met.is("no 21"));
     assert!((3..=12).contains(&refused), "{refused} % of codes over 255");
-    let given = share(|met| met.accepted().next().is_some());
+    let given = share(|met| {
+        let is_number = |content: &[u8]| value(content).is_some();
+        met.is("ok") && contents(until_end(&met.asked.text)).any(is_number)
+    });
     assert!(given >= 3, "{given} % of accepted numbers");
 }
