@@ -477,7 +477,12 @@ fn text(random: &mut Random, names: &[Vec<u8>]) -> Vec<u8> {
     }
     if random.one_in(6) {
         text.push(random.pick(&[0, 10, 13]));
-        text.extend(symbol(random, names));
+        // No fault behind the end is met.
+        text.extend(if random.one_in(2) {
+            fault(random)
+        } else {
+            symbol(random, names)
+        });
     }
     text
 }
