@@ -202,52 +202,7 @@ number-references : (rows : List Row) → All rows → All (
     ∷ stops "xy<m>" [] over-in-a-macro 2 9 code-over-255 in-text 2
     ∷ rows)
 unfolding translated outAfter judged scanned sound headed sized fitting nameAt valueAt nameByte small sameName entryAt entries sought meant nameGives contentGives symbolGives symbolsFrom wholeText expands symbolAt active barred code coded punctuation toppedCode toppedSymbol referred closed quotedOther firstAt modeOf reading numbered inBase judgedReading digit string digits enough
-number-references rows others = (
-  translated-row "<321>" [] [] 0,
-  (
-    translated-row "<65>" [] [] 0,
-    (
-      translated-row "<255>" [] [] 0,
-      (
-        translated-row "<256>" [] [] 0,
-        (
-          translated-row "<&0FF>" [] [] 0,
-          (
-            translated-row "<36_74>" [] [] 0,
-            (
-              translated-row "<256>" [] named-256 1,
-              (
-                translated-row "<256x>" [] named-256 1,
-                (
-                  translated-row "<256x>" [] named-256x 1,
-                  (
-                    translated-row "a<256>" [] [] 0,
-                    (
-                      translated-row "\"<256>\"" [] [] 0,
-                      (
-                        translated-row "<4294967295>" [] [] 0,
-                        (
-                          translated-row "<4294967296>" [] [] 0,
-                          (
-                            translated-row "<256" [] [] 0,
-                            (
-                              translated-row "xy<m>" [] over-in-a-macro 2,
-                              others,
-                            ),
-                          ),
-                        ),
-                      ),
-                    ),
-                  ),
-                ),
-              ),
-            ),
-          ),
-        ),
-      ),
-    ),
-  ),
-)
+number-references rows others = (translated-row "<321>" [] [] 0, (translated-row "<65>" [] [] 0, (translated-row "<255>" [] [] 0, (translated-row "<256>" [] [] 0, (translated-row "<&0FF>" [] [] 0, (translated-row "<36_74>" [] [] 0, (translated-row "<256>" [] named-256 1, (translated-row "<256x>" [] named-256 1, (translated-row "<256x>" [] named-256x 1, (translated-row "a<256>" [] [] 0, (translated-row "\"<256>\"" [] [] 0, (translated-row "<4294967295>" [] [] 0, (translated-row "<4294967296>" [] [] 0, (translated-row "<256" [] [] 0, (translated-row "xy<m>" [] over-in-a-macro 2, others)))))))))))))))
 
 p13 : Holds (translates "<A>b" [] named-x 1 2 (bytes "xb") 4 0)
 unfolding translated outAfter judged scanned sound headed sized fitting nameAt valueAt nameByte small sameName entryAt entries sought meant nameGives contentGives symbolGives symbolsFrom wholeText expands symbolAt active barred code coded punctuation toppedCode toppedSymbol referred closed quotedOther firstAt modeOf reading numbered inBase judgedReading digit string digits enough
