@@ -2,16 +2,16 @@
 use mathlib.Core.Path.{_≡_, refl, ap, ap₂, sym, _∙_}
 use mathlib.Core.Bool.{true, false}
 use mathlib.Core.List.{List, [], _∷_, _++_}
-use Prim.Native.Nat.{ℕ, _-_, _≤_, _<_}
+use Prim.Native.Nat.{ℕ, zero, suc, _-_, _≤_, _<_}
 use Prim.Native.String.{String}
 use native.Mathlib.Omega.{arith}
 use lib.Dec.{lit≤, lit<}
 use lib.IntN.{pos, negℤ}
-use lib.ListN.{length, drop}
+use lib.ListN.{length, take, drop}
 use Rattle.paper.specs.Answers.{Answer, in-text, in-house, in-farm, in-index}
 use Rattle.paper.specs.Bytes.{nameByte, wordByte}
 use Rattle.paper.specs.Layings.{terminator, roomFor, layingOf, convertedBy, convertedAnswer}
-use Rattle.paper.specs.Refusals.{no-room, bad-base, too-big, bad-reference, unknown-name, too-deep, allowance-spent, bad-table, bad-expression, not-an-integer, over-length, bad-field, bad-index, code-over-255}
+use Rattle.paper.specs.Refusals.{no-room, bad-base, too-deep, allowance-spent, bad-table, bad-expression, not-an-integer, over-length, bad-field, bad-index}
 use Rattle.paper.specs.Texts.{bytes}
 use Rattle.paper.specs.Traces as Traces
 use Rattle.forms.specs.Digits.{digits, enough}
@@ -183,26 +183,10 @@ p11 : Holds (translates "\"a\"\"b\"" [] [] 0 3 (bytes "a\"b") 6 0)
 unfolding translated outAfter judged scanned sound headed sized fitting nameAt valueAt nameByte small sameName entryAt entries sought meant nameGives contentGives symbolGives symbolsFrom wholeText expands symbolAt active barred code coded punctuation toppedCode toppedSymbol referred closed quotedOther firstAt modeOf reading numbered inBase judgedReading digit string digits enough
 p11 out after r long c = translated-row "\"a\"\"b\"" [] [] 0 out after r long c
 
--- P12 and its neighbours, the references to a number, in front of other rows
-number-references : (rows : List Row) → All rows → All (
-    stops "<321>" [] [] 0 1 code-over-255 in-text 0
-    ∷ translates "<65>" [] [] 0 1 (bytes "A") 4 0
-    ∷ translates "<255>" [] [] 0 1 (255 ∷ []) 5 0
-    ∷ stops "<256>" [] [] 0 1 code-over-255 in-text 0
-    ∷ translates "<&0FF>" [] [] 0 1 (255 ∷ []) 6 0
-    ∷ stops "<36_74>" [] [] 0 1 code-over-255 in-text 0
-    ∷ stops "<256>" [] named-256 1 1 code-over-255 in-text 0
-    ∷ stops "<256x>" [] named-256 1 1 unknown-name in-text 0
-    ∷ translates "<256x>" [] named-256x 1 1 (bytes "y") 6 0
-    ∷ stops "a<256>" [] [] 0 0 code-over-255 in-text 1
-    ∷ stops "\"<256>\"" [] [] 0 1 code-over-255 in-text 1
-    ∷ stops "<4294967295>" [] [] 0 1 code-over-255 in-text 0
-    ∷ stops "<4294967296>" [] [] 0 1 too-big in-text 0
-    ∷ stops "<256" [] [] 0 1 bad-reference in-text 0
-    ∷ stops "xy<m>" [] over-in-a-macro 2 9 code-over-255 in-text 2
-    ∷ rows)
+-- P12 and its neighbours, the references to a number
+number-references : All (take 15 (drop 11 examples))
 unfolding translated outAfter judged scanned sound headed sized fitting nameAt valueAt nameByte small sameName entryAt entries sought meant nameGives contentGives symbolGives symbolsFrom wholeText expands symbolAt active barred code coded punctuation toppedCode toppedSymbol referred closed quotedOther firstAt modeOf reading numbered inBase judgedReading digit string digits enough
-number-references rows others = (translated-row "<321>" [] [] 0, (translated-row "<65>" [] [] 0, (translated-row "<255>" [] [] 0, (translated-row "<256>" [] [] 0, (translated-row "<&0FF>" [] [] 0, (translated-row "<36_74>" [] [] 0, (translated-row "<256>" [] named-256 1, (translated-row "<256x>" [] named-256 1, (translated-row "<256x>" [] named-256x 1, (translated-row "a<256>" [] [] 0, (translated-row "\"<256>\"" [] [] 0, (translated-row "<4294967295>" [] [] 0, (translated-row "<4294967296>" [] [] 0, (translated-row "<256" [] [] 0, (translated-row "xy<m>" [] over-in-a-macro 2, others)))))))))))))))
+number-references = (translated-row "<321>" [] [] 0, (translated-row "<65>" [] [] 0, (translated-row "<255>" [] [] 0, (translated-row "<256>" [] [] 0, (translated-row "<&0FF>" [] [] 0, (translated-row "<36_74>" [] [] 0, (translated-row "<256>" [] named-256 1, (translated-row "<256x>" [] named-256 1, (translated-row "<256x>" [] named-256x 1, (translated-row "a<256>" [] [] 0, (translated-row "\"<256>\"" [] [] 0, (translated-row "<4294967295>" [] [] 0, (translated-row "<4294967296>" [] [] 0, (translated-row "<256" [] [] 0, (translated-row "xy<m>" [] over-in-a-macro 2, tt)))))))))))))))
 
 p13 : Holds (translates "<A>b" [] named-x 1 2 (bytes "xb") 4 0)
 unfolding translated outAfter judged scanned sound headed sized fitting nameAt valueAt nameByte small sameName entryAt entries sought meant nameGives contentGives symbolGives symbolsFrom wholeText expands symbolAt active barred code coded punctuation toppedCode toppedSymbol referred closed quotedOther firstAt modeOf reading numbered inBase judgedReading digit string digits enough
@@ -418,8 +402,14 @@ four-bytes : Holds (mistakes (0 ∷ 0 ∷ 0 ∷ 0 ∷ []) "%cs" 9 over-length 0 
 unfolding dateAnswer layingOf pieceAt layoutFrom fieldNamed dateField shown digits momentAt dateOf lastBegun total
 four-bytes buf after r long c = mistakes-row (0 ∷ 0 ∷ 0 ∷ 0 ∷ []) (bytes "%cs") 9 buf after r long c _ refl (λ e. omega arith)
 
+-- rows that hold, and those behind them
+joined : (n : ℕ) (rows : List Row) → All (take n rows) → All (drop n rows) → All rows
+joined zero rows first rest = rest
+joined (suc n) [] first rest = tt
+joined (suc n) (row ∷ rows) first rest = (first .0, joined n rows (first .1) rest)
+
 -- the table, whole
 pub worked-examples : All examples
 worked-examples =
     let others : All (drop 26 examples) = (p13, (p13-farm, (p14, (p15, (without-a-zero-byte, (lacks-a-character, (with-a-zero-byte, (lacks-its-zero-byte, (a-byte-stays, (empty-text, (string-hides, (integer-hides, (integer-counts, (string-counts-not, (found-in-the-farm, (found-in-the-house, (sign-before-letter, (beginning-first, (first-byte-first, (no-entry, (a-byte-short, (both-through, (sign-found, (letter-found, (entries-exchanged, (longer-index, (macro-of-the-house, (macro-of-the-farm, (macro-spends-two, (farm-told-first, (house-told, (names-itself-thrice, (names-itself, (names-itself-behind, (zero-divisor-unread, (first-date, (last-date, (day-in-2000, (last-of-february, (first-of-march, (day-366, (day-365, (percent-signs, (percent-sign-left, (small-letters, (half-a-name, (room-too-small, (empty-format, (four-bytes, tt))))))))))))))))))))))))))))))))))))))))))))))))) in
-    (p1, (p2, (p3, (p4, (p5, (p6, (p7, (p8, (p9, (p10, (p11, number-references (drop 26 examples) others)))))))))))
+    (p1, (p2, (p3, (p4, (p5, (p6, (p7, (p8, (p9, (p10, (p11, joined 15 (drop 11 examples) number-references others)))))))))))
