@@ -2,20 +2,20 @@
 ghost use Rattle.std.specs.Prelude.{◌≡◌};
 ghost use Rattle.arithmetic.specs.Operators.{level_of, stands_alone, divides};
 
-#[derive(Drop)]
+#[derive(Clone, Copy)]
 pub enum Product {
     Times,
     Over,
     Mod,
 }
 
-#[derive(Drop)]
+#[derive(Clone, Copy)]
 pub enum Sum {
     Plus,
     Minus,
 }
 
-#[derive(Drop)]
+#[derive(Clone, Copy)]
 pub enum Relation {
     Equal,
     Unequal,
@@ -28,13 +28,13 @@ pub enum Relation {
     ShiftRightUnsigned,
 }
 
-#[derive(Drop)]
+#[derive(Clone, Copy)]
 pub enum Either {
     Or,
     Eor,
 }
 
-#[derive(Drop)]
+#[derive(Clone, Copy)]
 pub enum Operator {
     Not,
     Product(Product),

@@ -1,4 +1,5 @@
 // What a five-byte time stands for: its date, its weekday and its time of day.
+#![tactic(auto)]
 ghost use Rattle.std.specs.Prelude.{◌≡◌, ◌+◌, ◌*◌};
 ghost use Rattle.calendar.specs.Moments.{moment_at};
 
@@ -13,7 +14,7 @@ const DAY: u64 = 8640000;
 
 // A moment to the hundredth of a second. Months, and the days of a month and of a year, are counted from 1; weekdays from Monday, which
 // is 0.
-#[derive(Drop)]
+#[derive(Clone, Copy)]
 pub struct Moment {
     pub hundredth: u32,
     pub second: u32,

@@ -7,7 +7,7 @@ ghost use Rattle.calendar.specs.inner.Places.{place_in_month, in_leap_year};
 const FIRST_DAYS: [u32; 13] = [0, 31, 60, 91, 121, 152, 182, 213, 244, 274, 305, 335, 366];
 
 // A month and a day of it, both counted from 0.
-#[derive(Drop)]
+#[derive(Clone, Copy)]
 pub(crate) struct InMonth {
     pub months: u32,
     pub day: u32,

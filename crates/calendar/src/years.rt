@@ -35,7 +35,7 @@ const FIRST_DAYS: [u32; 349] = [
 ];
 
 // A year counted from 1900, and a day of it counted from 0.
-#[derive(Drop)]
+#[derive(Clone, Copy)]
 pub(crate) struct InYear {
     pub years: u32,
     pub day: u32,

@@ -6,7 +6,7 @@ ghost use Rattle.dates.specs.inner.Steps.{glyphs, number};
 use calendar::Moment;
 use forms::forms::Base;
 
-#[derive(Drop)]
+#[derive(Clone, Copy)]
 pub enum Field {
     Hundredths,
     Seconds,
@@ -22,7 +22,7 @@ pub enum Field {
 }
 
 // Two characters, or three.
-#[derive(Drop)]
+#[derive(Clone, Copy)]
 pub(crate) struct Glyphs {
     pub first: u8,
     pub second: u8,

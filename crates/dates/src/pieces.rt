@@ -7,7 +7,7 @@ ghost use Rattle.dates.specs.Formats.{behind_percent, piece_at};
 use crate::fields::Field;
 use paper::bytes::byte;
 
-#[derive(Drop)]
+#[derive(Clone, Copy)]
 pub enum Piece {
     // A zero byte, or the slice's end.
     End,

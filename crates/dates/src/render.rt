@@ -13,7 +13,7 @@ use paper::TextPlace;
 use runs::output::copy;
 
 // How many characters the string has, or the first bad field.
-#[derive(Drop)]
+#[derive(Clone, Copy)]
 pub(crate) enum Rendered {
     Characters(usize),
     BadField(TextPlace),

@@ -1,4 +1,5 @@
 // Expressions: a text of numbers, names, operators and brackets, evaluated whole or refused.
+#![tactic(auto)]
 ghost use Rattle.std.specs.Prelude.{◌≡◌};
 ghost use Rattle.paper.specs.Traces.{run};
 ghost use Rattle.variables.specs.inner.Keys.{Keys};
@@ -14,7 +15,7 @@ use variables::both;
 use variables::both::Judged;
 
 // What an evaluation answers.
-#[derive(Drop)]
+#[derive(Clone, Copy)]
 pub enum Evaluated {
     // The value as a signed 32-bit number's pattern, and the place of the text's end.
     Value {

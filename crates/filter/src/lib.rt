@@ -1,4 +1,5 @@
 // From standard input to standard output: a text's translation, or a line that says why there is none.
+#![tactic(auto)]
 ghost use Rattle.std.specs.Prelude.{◌≡◌, ◌++◌, length, drop};
 ghost use Rattle.filter.specs.Answers.{answer_to, Answered};
 
@@ -10,7 +11,7 @@ use paper::BAD_INDEX;
 use symbols::flags::Flags;
 
 // How many bytes the text has that was read, and how many its answer.
-#[derive(Drop)]
+#[derive(Clone, Copy)]
 pub struct Lengths {
     pub text: usize,
     pub answer: usize,

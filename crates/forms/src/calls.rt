@@ -6,7 +6,7 @@ ghost use Rattle.forms.specs.inner.Steps.{form_of};
 use crate::forms::Width;
 
 // The family of a call with its width, or that a number is no call's.
-#[derive(Drop)]
+#[derive(Clone, Copy)]
 pub enum Family {
     NoCall,
     Hex(Width),

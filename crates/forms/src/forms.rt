@@ -3,7 +3,7 @@ ghost use Rattle.std.specs.Prelude.{◌≡◌, ℕ, ◌/◌, ◌%◌, ◌^◌, �
 ghost use Rattle.forms.specs.Digits.{glyph};
 ghost use Rattle.forms.specs.Strings.{radix, bits};
 
-#[derive(Drop)]
+#[derive(Clone, Copy)]
 pub enum Base {
     Two,
     Ten,
@@ -11,7 +11,7 @@ pub enum Base {
 }
 
 // How much of the value a call uses, from the low end.
-#[derive(Drop)]
+#[derive(Clone, Copy)]
 pub enum Width {
     Nibble,
     Byte,

@@ -4,7 +4,7 @@ ghost use Rattle.forms.specs.inner.Steps.{number_in};
 
 use crate::forms::{Width, low_part};
 
-#[derive(Drop)]
+#[derive(Clone, Copy)]
 pub struct Number {
     pub negative: bool,
     // How far it is from 0.

@@ -1,4 +1,5 @@
 // GS strings: a text with quotes, codes and references, translated whole or refused.
+#![tactic(auto)]
 ghost use Rattle.std.specs.Prelude.{◌≡◌, ◌≤◌, length};
 ghost use Rattle.paper.specs.Traces.{bytes, answer};
 ghost use Rattle.indexes.specs.Indexes.{given_by};
@@ -17,7 +18,7 @@ use symbols::flags::Flags;
 use variables::both;
 
 // What a translation answers.
-#[derive(Drop)]
+#[derive(Clone, Copy)]
 pub enum Translated {
     // The place of the text's end, the bytes written, and the room left.
     Written {

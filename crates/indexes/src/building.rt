@@ -13,7 +13,7 @@ use records::names::comes_before;
 use variables::{Checked, check_table};
 
 // What building an index answers.
-#[derive(Drop)]
+#[derive(Clone, Copy)]
 pub enum Built {
     // The bytes written, and the room left.
     Written {

@@ -1,5 +1,6 @@
 // Look-ups: what a name means in two tables, with or without an index beside the house's. The judgement of a table with its index is in
 // `fitting`, the marks of places that it goes by in `marks`.
+#![tactic(auto)]
 ghost use Rattle.std.specs.Prelude.{◌≡◌};
 ghost use Rattle.variables.specs.Judgements.{judged};
 ghost use Rattle.variables.specs.inner.Keys.{laid_over, judged_lines, match_as};
@@ -18,7 +19,7 @@ use variables::both::Keys;
 use variables::{Match, both, keys};
 
 // What is found of the tables and the index before anything is read.
-#[derive(Drop)]
+#[derive(Clone, Copy)]
 pub enum Judged {
     // So many lines of keys.
     Good(usize),
@@ -32,7 +33,7 @@ pub enum Judged {
     BadIndex,
 }
 
-#[derive(Drop)]
+#[derive(Clone, Copy)]
 pub enum Found {
     At(Variable),
     Unknown,

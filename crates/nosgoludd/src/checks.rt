@@ -7,7 +7,7 @@ use variables::Checked;
 
 // The refusal's number, 0 where the table is good; how many records; the place, counted in the table.
 #[repr(C)]
-#[derive(Drop)]
+#[derive(Clone, Copy)]
 pub struct NosChecked {
     pub number: u32,
     pub records: u32,

@@ -9,7 +9,7 @@ use expressions::Evaluated;
 
 // The refusal's number, 0 where accepted; what the place is counted in; the place, which is the text's end where accepted; the value.
 #[repr(C)]
-#[derive(Drop)]
+#[derive(Clone, Copy)]
 pub struct NosValue {
     pub number: u32,
     pub counted: u32,

@@ -1,5 +1,6 @@
 // The C face: every operation answers by a struct with named fields, by value, so that a refusal writes nothing anywhere.
 // A field that says nothing in an answer is 0.
+#![tactic(auto)]
 ghost use Rattle.std.specs.Prelude.{◌≡◌};
 ghost use Rattle.paper.specs.Answers.{counted_in};
 
@@ -36,7 +37,7 @@ pub(crate) fn counted_in(holder: Holder) -> u32
 // The answer of an operation that writes into a lent buffer: the refusal's number, 0 where accepted; what the place is counted in;
 // the place; the room that is enough; the room left.
 #[repr(C)]
-#[derive(Drop)]
+#[derive(Clone, Copy)]
 pub struct NosAnswer {
     pub number: u32,
     pub counted: u32,

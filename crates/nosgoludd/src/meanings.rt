@@ -11,7 +11,7 @@ use paper::{BAD_INDEX, UNKNOWN_NAME};
 // The refusal's number, 0 where the name is known; what the place is counted in; the record's place; its kind; the length of its value
 // and where that starts in that table.
 #[repr(C)]
-#[derive(Drop)]
+#[derive(Clone, Copy)]
 pub struct NosVariable {
     pub number: u32,
     pub counted: u32,

@@ -7,7 +7,7 @@ use reader::Reading;
 
 // The refusal's number, 0 where a value was read; the value; the place, which is the first byte not read where accepted.
 #[repr(C)]
-#[derive(Drop)]
+#[derive(Clone, Copy)]
 pub struct NosNumber {
     pub number: u32,
     pub value: u32,

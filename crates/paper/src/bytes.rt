@@ -54,7 +54,7 @@ pub fn is_word_byte(c: u8) -> bool
 }
 
 // The kinds of bytes of which runs are passed over.
-#[derive(Drop)]
+#[derive(Clone, Copy)]
 pub enum ByteKind {
     Space,
     Name,

@@ -2,7 +2,7 @@
 ghost use Rattle.std.specs.Prelude.{◌≡◌};
 ghost use Rattle.paper.specs.Traces.{fault_number};
 
-#[derive(Drop)]
+#[derive(Clone, Copy)]
 pub enum Fault {
     NoDigit,
     BadBase,

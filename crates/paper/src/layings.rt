@@ -7,7 +7,7 @@ use crate::{NO_ROOM, TextPlace, one_if};
 
 // What a conversion answers. `offset` is the number of characters, where the zero byte stands if there is one; `need` is the
 // room that the whole string takes; `free` is the room behind the characters.
-#[derive(Drop)]
+#[derive(Clone, Copy)]
 pub enum Converted {
     Written {
         offset: usize,

@@ -1,5 +1,7 @@
 // What every chapter shares: the two kinds of place and the two tables, the refusal numbers by name, a text's bytes, a string that is laid
 // into a buffer, and the allowance.
+#![tactic(auto)]
+
 ghost use Rattle.std.specs.Prelude.{◌≡◌, cond, ◌≤◌};
 
 pub mod allowance;
@@ -8,16 +10,16 @@ pub mod faults;
 pub mod layings;
 
 // A place in a text, counted in bytes from its start.
-#[derive(Drop)]
+#[derive(Clone, Copy)]
 pub struct TextPlace(pub usize);
 
 // The place of a record in a table of variables: where its mark starts, counted in bytes from the table's start.
-#[derive(Drop)]
+#[derive(Clone, Copy)]
 pub struct RecordPlace(pub usize);
 
 // The two tables of variables: the farm's own is looked in before the house's. Beside a record's place it says in which of them that is
 // counted.
-#[derive(Drop)]
+#[derive(Clone, Copy)]
 pub enum Holder {
     Farm,
     House,

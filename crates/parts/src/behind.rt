@@ -9,7 +9,7 @@ use arithmetic::operators::Operator;
 use tokens::{Lexed, Token};
 
 // What stands behind an operand: an operator of the level that asks, with its place and the place behind it, or anything else.
-#[derive(Drop)]
+#[derive(Clone, Copy)]
 pub enum Behind {
     Binds {
         operator: Operator,
@@ -57,7 +57,7 @@ pub fn operator_behind(text: &[u8], level: u8, part: Part) -> Behind
 }
 
 // What has to stand behind a part that is whole: the ")" of its bracket, or the text's end.
-#[derive(Drop)]
+#[derive(Clone, Copy)]
 pub enum Wanted {
     ClosingBracket,
     TextEnd,

@@ -1,5 +1,6 @@
 // Parts of an expression, read and evaluated in one pass: a value; a refusal of the evaluation, which waits until the syntax is known to
 // be good; or a refusal of the syntax.
+#![tactic(auto)]
 ghost use Rattle.std.specs.Prelude.{◌≡◌, ◌&&◌, eqb};
 ghost use Rattle.paper.specs.declared.faults.Fault.TheVariants as Fault;
 ghost use Rattle.arithmetic.specs.Operators.{divides};
@@ -14,13 +15,13 @@ use paper::ZERO_DIVISOR;
 use paper::faults::Fault;
 
 // How the evaluation stands: the look-ups that are left, or the first refusal that it met.
-#[derive(Drop)]
+#[derive(Clone, Copy)]
 pub enum Account {
     Open(u32),
     Refused { number: u8, place: usize },
 }
 
-#[derive(Drop)]
+#[derive(Clone, Copy)]
 pub enum Part {
     // A 32-bit pattern, the look-ups left, and the first place behind the part.
     Value {

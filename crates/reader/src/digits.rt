@@ -13,7 +13,7 @@ const HALF: u64 = 2147483648;
 
 // Digits that were read: where the first byte stands that is none, and what they are worth. Once that is over 4294967295, any number over
 // it may stand for it.
-#[derive(Drop)]
+#[derive(Clone, Copy)]
 pub struct Run {
     pub value: u64,
     pub end: usize,

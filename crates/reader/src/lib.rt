@@ -1,4 +1,5 @@
 // The unsigned reader: a number behind spaces, as "&" and hex digits, as digits behind a base and "_", or as decimal digits.
+#![tactic(auto)]
 ghost use Rattle.std.specs.Prelude.{◌≡◌, ◌≤◌};
 ghost use Rattle.reader.specs.Reading.{based, in_base, numbered, reading};
 ghost use Rattle.reader.specs.inner.Steps.{Inside};
@@ -15,13 +16,13 @@ use paper::{BAD_BASE, LONGEST, OVER_LENGTH, TextPlace};
 pub const NO_LIMIT: u32 = 4294967295;
 
 // A value that was read, and the place of the first byte behind it.
-#[derive(Drop)]
+#[derive(Clone, Copy)]
 pub struct Number {
     pub value: u32,
     pub end: TextPlace,
 }
 
-#[derive(Drop)]
+#[derive(Clone, Copy)]
 pub enum Reading {
     Value(Number),
     Refused { number: u8, at: TextPlace },

@@ -3,6 +3,7 @@
 //
 // Any place can be asked for: past the slice's end zeros are read. A place is a `u32`, so that with a record's lengths it makes no sum
 // that a `usize` cannot hold.
+#![tactic(auto)]
 ghost use Rattle.std.specs.Prelude.{◌≡◌, ◌≤◌, get_or, take, drop};
 ghost use Rattle.records.specs.Records.{name_at, next_place, fitting, headed, sized, shaped, entry_at};
 ghost use Rattle.records.specs.Kinds.{variable_at};
@@ -17,7 +18,7 @@ use paper::bytes::byte;
 use paper::{Holder, RecordPlace};
 
 // A variable: its record's place, the table that holds it, its kind, and where its value lies in that table.
-#[derive(Drop)]
+#[derive(Clone, Copy)]
 pub struct Variable {
     pub at: RecordPlace,
     pub holder: Holder,

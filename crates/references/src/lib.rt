@@ -1,4 +1,5 @@
 // References: what a reference's content stands for, a number or a variable of the tables.
+#![tactic(auto)]
 ghost use Rattle.std.specs.Prelude.{◌≡◌};
 ghost use Rattle.variables.specs.inner.Keys.{match_as};
 ghost use Rattle.lookups.specs.inner.Through.{sought_through};
@@ -15,7 +16,7 @@ use variables::Match;
 use variables::keys::find;
 
 // What a reference's content stands for.
-#[derive(Drop)]
+#[derive(Clone, Copy)]
 pub enum Referred {
     Number(u8),
     CodeOver255,

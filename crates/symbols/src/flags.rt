@@ -2,7 +2,7 @@
 ghost use Rattle.std.specs.Prelude.{◌≡◌};
 ghost use Rattle.symbols.specs.Flags.{has};
 
-#[derive(Drop)]
+#[derive(Clone, Copy)]
 pub struct Flags(pub u32);
 
 impl Flags {

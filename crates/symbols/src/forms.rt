@@ -6,13 +6,13 @@ use paper::TextPlace;
 use paper::faults::Fault;
 
 // How a text is read: as it stands, or as a quoted string whose open quote stands at a place.
-#[derive(Drop)]
+#[derive(Clone, Copy)]
 pub enum Mode {
     Plain,
     Quoted(TextPlace),
 }
 
-#[derive(Drop)]
+#[derive(Clone, Copy)]
 pub enum Symbol {
     // The text ends here.
     End(TextPlace),

@@ -12,7 +12,7 @@ use paper::bytes::{ByteKind, byte, is_end, skip};
 use paper::faults::Fault;
 
 // Where the first symbol stands, and how the text is read.
-#[derive(Drop)]
+#[derive(Clone, Copy)]
 pub struct Opening {
     pub at: usize,
     pub mode: Mode,

@@ -1,4 +1,5 @@
 // Tokens: an operator, a number, a name, a bracket, longest first, the spaces before each ignored.
+#![tactic(auto)]
 ghost use Rattle.std.specs.Prelude.{◌≡◌, [], ◌∷◌, ◌+◌, ◌<◌, ◌≤◌, ◌^◌, length, drop};
 ghost use Rattle.tokens.specs.declared.Token.TheVariants.{Operator as Operates};
 ghost use Rattle.records.specs.Records.{same_bytes};
@@ -11,7 +12,7 @@ use paper::faults::Fault;
 use paper::{BAD_BASE, NO_DIGIT};
 use reader::{NO_LIMIT, Reading};
 
-#[derive(Drop)]
+#[derive(Clone, Copy)]
 pub enum Token {
     // The text's end.
     End,
@@ -27,7 +28,7 @@ pub enum Token {
 }
 
 // A token, where it starts, and the first place behind it.
-#[derive(Drop)]
+#[derive(Clone, Copy)]
 pub struct Lexed {
     pub token: Token,
     pub place: usize,

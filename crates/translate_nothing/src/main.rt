@@ -1,4 +1,5 @@
 // The program over an empty input, which it answers with nothing.
+#![tactic(auto)]
 fn main() {
     filter::run(&mut [0; 65536], &mut [0; 65535]);
 }

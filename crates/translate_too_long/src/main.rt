@@ -1,4 +1,5 @@
 // The program over a byte more than it takes. The text ends early, and the bytes behind its end count all the same.
+#![tactic(auto)]
 fn main() {
     filter::run(&mut [0; 65536], &mut [0; 65535]);
 }

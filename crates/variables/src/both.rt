@@ -23,7 +23,7 @@ pub type Keys = [u32; MOST_LINES];
 pub const NO_KEYS: Keys = [0; MOST_LINES];
 
 // What is found of the tables before anything is read.
-#[derive(Drop)]
+#[derive(Clone, Copy)]
 pub enum Judged {
     // So many records in both.
     Good(usize),

@@ -1,4 +1,5 @@
 // Runs the cases of standard input through the proved libraries, and writes a line of answer to each.
+#![tactic(auto)]
 mod answers;
 mod cases;
 mod fields;

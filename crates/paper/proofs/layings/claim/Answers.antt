@@ -5,15 +5,13 @@ use mathlib.Core.Path.{◌≡◌, refl, ap, ◌∙◌}
 use Prim.Native.Nat.{ℕ, ◌+◌, ◌-◌, ◌≤◌, ◌<◌}
 use native.Mathlib.Omega.{arith}
 use lib.ListN.{length, set}
-use borrow.Author.Rules.{rules}
 use Rattle.paper.specs.Refusals.{no_room}
 use Rattle.paper.specs.Layings.{terminator, room_of, laying_of, converted_by}
 use Rattle.paper.specs.inner.Claims.{claimed_in}
 use Rattle.paper.specs.declared.layings.Converted.TheVariants.{Written, Refused}
 use Rattle.paper.proofs.Choice.{below, not_below}
 use Rattle.paper.proofs.Stores.{sets_if}
-use Rattle.paper.proofs.layings.claim.Statement.{statement}
-use Rattle.paper.proofs.layings.claim.Tie as tie
+use Rattle.paper.proofs.layings.claim.Goals as goal
 
 one_long : (wanted : Bool) → cond wanted 1 0 ≡ length (terminator wanted)
 one_long true = refl
@@ -44,19 +42,20 @@ module _ (characters : ℕ) (terminated : Bool) (one : ℕ) (e : one ≡ cond te
         not_below (length buf) (room_of characters terminated) _ _ room' (stored ∙ sets_if terminated buf characters 0),
       )
 
-returns : tie.Need-returns
-returns c =
-    let a = c.before.before.before.args in
-    refuses a.characters a.terminated _ c.before.one_if.ensures.0 a.buf.now (omega arith)
+pub returns-then-room-need : goal.returns-then-room-need
+returns-then-room-need c =
+    let a = c.args in
+    record {
+      answer = (refuses a.characters a.terminated _ c.one_if.ensures.0 a.buf.now (omega arith)).0;
+      buffer = (refuses a.characters a.terminated _ c.one_if.ensures.0 a.buf.now (omega arith)).1;
+    }
 
-returns-2 : tie.Need-returns-2
-returns-2 c =
+pub returns-else-room-need : goal.returns-else-room-need
+returns-else-room-need c =
     let stored = c.before.before in
     let sized = stored.before.before.before in
-    let a = sized.before.before.args in
-    accepts a.characters a.terminated _ sized.one_if.ensures.0 a.buf.now _ (omega arith) stored.put_if.ensures
-
-pub claim_spec : {M : Type 1} → statement M
-claim_spec =
-    tie.close
-    (tie.spec (λ c κs. search rules) (λ c. search rules) (λ c κs. search rules) (λ c. search rules) returns (λ c. search rules) returns-2)
+    let a = sized.args in
+    record {
+      answer = (accepts a.characters a.terminated _ sized.one_if.ensures.0 a.buf.now _ (omega arith) stored.put_if.ensures).0;
+      buffer = (accepts a.characters a.terminated _ sized.one_if.ensures.0 a.buf.now _ (omega arith) stored.put_if.ensures).1;
+    }
