@@ -1,5 +1,6 @@
 // What a five-byte time stands for: its date, its weekday and its time of day.
 #![tactic(auto)]
+
 ghost use Rattle.std.specs.Prelude.{◌≡◌, ◌+◌, ◌*◌};
 ghost use Rattle.calendar.specs.Moments.{moment_at};
 

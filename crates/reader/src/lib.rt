@@ -1,5 +1,6 @@
 // The unsigned reader: a number behind spaces, as "&" and hex digits, as digits behind a base and "_", or as decimal digits.
 #![tactic(auto)]
+
 ghost use Rattle.std.specs.Prelude.{◌≡◌, ◌≤◌};
 ghost use Rattle.reader.specs.Reading.{based, in_base, numbered, reading};
 ghost use Rattle.reader.specs.inner.Steps.{Inside};

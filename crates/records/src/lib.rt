@@ -4,6 +4,7 @@
 // Any place can be asked for: past the slice's end zeros are read. A place is a `u32`, so that with a record's lengths it makes no sum
 // that a `usize` cannot hold.
 #![tactic(auto)]
+
 ghost use Rattle.std.specs.Prelude.{◌≡◌, ◌≤◌, get_or, take, drop};
 ghost use Rattle.records.specs.Records.{name_at, next_place, fitting, headed, sized, shaped, entry_at};
 ghost use Rattle.records.specs.Kinds.{variable_at};

@@ -1,0 +1,17 @@
+-- `comes_before` meets its contract. The loop's invariant: which name comes first hangs on their bytes from there on. The measure is what
+-- is left of the first.
+use mathlib.Core.Path.{◌≡◌, refl, ap₂, sym, ◌∙◌}
+use mathlib.Core.List.{List}
+use Prim.Native.Nat.{ℕ, ◌-◌, ◌≤◌}
+use native.Mathlib.Omega.{arith}
+use lib.Dec.{ltb}
+use lib.ListN.{length, drop}
+use Rattle.records.specs.Records.{comes_before}
+use Rattle.records.proofs.Order.{beginning_first, beginning_ends, before_more, before_here}
+use Rattle.records.proofs.names.comes_before.Given as goal
+
+abbrev pub invariant-loop-at : goal.invariant-loop-at
+invariant-loop-at l = (l.at ≤ length l.a) × (l.at ≤ length l.b) × (comes_before l.a l.b ≡ comes_before (drop l.at l.a) (drop l.at l.b))
+
+abbrev pub decreases-loop-at : goal.decreases-loop-at
+decreases-loop-at l = length l.a - l.at
