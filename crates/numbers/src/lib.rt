@@ -1,5 +1,6 @@
 // Numbers to strings: the 26 calls of the chapter, and the signed decimal that other chapters write.
 #![tactic(auto)]
+
 ghost use Rattle.std.specs.Prelude.{◌≡◌, ◌++◌, ◌≤◌, length, drop};
 ghost use Rattle.paper.specs.Layings.{laying, laid_in, converted_by};
 ghost use Rattle.forms.specs.Digits.{digit_count};

@@ -6,7 +6,6 @@ use Prim.Native.Nat.{ℕ, ◌-◌, ◌≤◌}
 use native.Mathlib.Omega.{arith}
 use lib.ListN.{length, take, drop, set}
 use lib.Seq.{sets}
-use borrow.Author.Rules.{rules}
 use Rattle.forms.specs.Digits.{digits}
 use Rattle.forms.specs.Strings.{radix, minus}
 use Rattle.forms.specs.declared.size.Number.{Number}
@@ -14,8 +13,7 @@ use Rattle.numbers.specs.inner.Steps.{spread_of, characters_of, string_of_number
 use Rattle.numbers.proofs.Laws.{digits_length}
 use Rattle.paper.proofs.Stores.{sets_if}
 use Rattle.numbers.proofs.Buffer.{signed}
-use Rattle.numbers.proofs.lay_number.Statement.{statement}
-use Rattle.numbers.proofs.lay_number.Tie as tie
+use Rattle.numbers.proofs.lay_number.Goals as goal
 
 -- the two stores, one behind the other
 stored : (number : Number) (base k : ℕ) (spaced : Bool) (end : ℕ) (old first second : List ℕ)
@@ -31,13 +29,10 @@ stored number base k spaced end old first second meet fits f g =
     g ∙ sets_if number.negative first 0 45 ∙ ap (λ l. sets l 0 sign) first_is
     ∙ signed old sign middle end (omega (arith, digits_length base spaced k number.magnitude)) fits
 
-returns : tie.Need-returns
+pub returns : goal.returns
 returns c =
-    let put = c.before.before.before.before.before.before.put-digits in
+    let put = c.put_digits in
     let start = c.before.before.before.before.before.before.before.before.before in
     let a = start.args in
     stored a.number (radix a.base) a.count a.spaced a.end a.buf.now _ _ start.requires.0 start.requires.1
-    put.ensures c.before.before.put_if.ensures
-
-pub lay_number_spec : {M : Type 1} → statement M
-lay_number_spec = tie.close (tie.spec (λ c κs. search rules) (λ c κs. search rules) (λ c. search rules) returns)
+    put.ensures c.put_if.ensures
