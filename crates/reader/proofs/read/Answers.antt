@@ -1,5 +1,5 @@
 -- `read` meets its contract: the slice from its start on is the slice, and one that is not too long is read from behind its spaces.
-use Rattle.std.proofs.Common.{◌≡◌, ℕ, ◌-◌, ◌<◌, ◌≤◌, Bool, List, length, take, ap, ◌∙◌, zero-add, arith, take_all, rules, le-ltb, lt-ltb}
+use Rattle.std.proofs.Common.{◌≡◌, ℕ, ◌-◌, ◌<◌, ◌≤◌, Bool, List, length, take, ap, ◌∙◌, zero-add, arith, take_all, le-ltb, lt-ltb}
 use Rattle.paper.specs.Refusals.{over_length, longest}
 use Rattle.paper.specs.Bytes.{space, spaces}
 use Rattle.paper.proofs.Runs.{run_short}
@@ -23,20 +23,17 @@ module _ (lent : List ℕ) where
     unfolding reading
     long_refused long = rw (lt-ltb longest (length lent) long)
 
-begins : (c : goal.After-skip-start) → c.skip-start.result ≡ spaces (text c.args.lent.now)
-begins c = c.skip-start.ensures ∙ zero-add _
-
 pub numbered-requires : goal.numbered-requires
 numbered-requires c =
     let lent = c.args.lent.now in
     record {
       short = omega (arith, ap length (same lent), c.if-text-le-LONGEST.true);
       begun = omega arith;
-      within = omega (arith, begins c, run_short space (text lent));
+      within = omega (arith, c.skip-start.ensures, zero-add (spaces (text lent)), run_short space (text lent));
     }
 
 pub returns-then-text-le-LONGEST : goal.returns-then-text-le-LONGEST
-returns-then-text-le-LONGEST c = c.numbered.ensures ∙ ap word_of (short_read _ _ _ _ (omega (arith, c.if-text-le-LONGEST.true)) (begins c.before))
+returns-then-text-le-LONGEST c = c.numbered.ensures ∙ ap word_of (short_read _ _ _ _ (omega (arith, c.if-text-le-LONGEST.true)) (c.skip-start.ensures ∙ zero-add _))
 
 pub returns : goal.returns
 returns c = c.refused.ensures ∙ ap word_of (long_refused _ _ _ (omega (arith, c.if-text-le-LONGEST.false)))

@@ -1,5 +1,5 @@
 -- `read_unsigned` meets its contract: its answer is what the word of `read` says.
-use Rattle.std.proofs.Common.{◌≡◌, ℕ, Bool, List, ap, ◌∙◌, rules}
+use Rattle.std.proofs.Common.{◌≡◌, ℕ, Bool, List, ap, ◌∙◌}
 use Rattle.reader.specs.Reading.{reading}
 use Rattle.reader.specs.inner.Words.{word_of, reading_of}
 use Rattle.reader.proofs.Bounds.{reading_bounded, reading_numbered}

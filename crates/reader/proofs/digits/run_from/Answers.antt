@@ -1,9 +1,9 @@
 -- `run_from` meets its contract. The loop's invariant, `Reached`: only digits were passed, and the value is what they are worth. The
 -- measure is what is left of the length.
-use Rattle.std.proofs.Common.{◌≡◌, ℕ, ◌+◌, ◌-◌, ◌*◌, ◌<◌, ◌≤◌, List, [], length, get_or, drop, refl, ap, ◌∙◌, mul-le-mul, arith, rules}
+use Rattle.std.proofs.Common.{◌≡◌, ℕ, ◌+◌, ◌*◌, ◌<◌, ◌≤◌, List, [], length, get_or, drop, refl, ap, ◌∙◌, mul-le-mul, arith}
 use Rattle.reader.specs.Reading.{digit, run, worth}
 use Rattle.reader.specs.inner.Steps.{StandsFor, DigitIn}
-use Rattle.reader.proofs.Laws.{run_more, run_none, run_end, Passed, one_passed, all_passed, cut_settled}
+use Rattle.reader.proofs.Laws.{run_more, run_none, run_end, one_passed, all_passed, cut_settled}
 use Rattle.reader.proofs.digits.run_from.Invariants.{Reached}
 use Rattle.reader.proofs.digits.run_from.Goals as goal
 
@@ -40,37 +40,27 @@ bounds-text-at c = omega arith
 
 pub returns-then-base-d : goal.returns-then-base-d
 returns-then-base-d c =
-    let t = c.before.before.before in
-    record {
-      end = (ended t.loop-at.invariant (run_none _ _ _ t.loop-at-test.true c.digit_in-d.ensures (omega arith))).0;
-      value = (ended t.loop-at.invariant (run_none _ _ _ t.loop-at-test.true c.digit_in-d.ensures (omega arith))).1;
-    }
+    let none = run_none _ _ _ c.loop-at-test.true c.digit_in-d.ensures c.if-base-d.true in
+    let e = ended c.loop-at.invariant none in
+    record { end = e.0; value = e.1 }
 
 pub returns-then-value-ge-HALF : goal.returns-then-value-ge-HALF
 returns-then-value-ge-HALF c =
-    let d = c.before.before.before in
-    let t = d.before.before in
-    record {
-      end = (settled t.loop-at.invariant t.loop-at-test.true d.digit_in-d.ensures (omega arith) t.requires.0
-          c.if-value-ge-HALF.true c.digits_end.ensures).0;
-      value = (settled t.loop-at.invariant t.loop-at-test.true d.digit_in-d.ensures (omega arith) t.requires.0
-          c.if-value-ge-HALF.true c.digits_end.ensures).1;
-    }
+    let s = settled c.loop-at.invariant c.loop-at-test.true c.digit_in-d.ensures c.if-base-d.false c.requires.0
+    c.if-value-ge-HALF.true c.digits_end.ensures in
+    record { end = s.0; value = s.1 }
 
 -- a value below 2 ^ 31 in a base up to 36 stays far below 2 ^ 64
-product :
-    (c : goal.Else-value-ge-HALF) →
-    let l = c.before.before.before.before.before in l.loop-at.value * l.args.base ≤ 2147483648 * 36
-product c =
-    let l = c.before.before.before.before.before in
-    let v : l.loop-at.value ≤ 2147483648 = omega (arith, c.if-value-ge-HALF.false) in
-    mul-le-mul {m₂ = 36} v l.requires.1
+product : (value base : ℕ) → value < 2147483648 → base ≤ 36 → value * base ≤ 2147483648 * 36
+product value base v b =
+    let w : value ≤ 2147483648 = omega arith in
+    mul-le-mul {m₂ = 36} w b
 
 pub overflow_mul-value : goal.overflow_mul-value
-overflow_mul-value c = omega (arith, product c)
+overflow_mul-value c = omega (arith, product _ _ c.if-value-ge-HALF.false c.requires.1)
 
 pub overflow_add-value : goal.overflow_add-value
-overflow_add-value c = omega (arith, product c)
+overflow_add-value c = omega (arith, product _ _ c.if-value-ge-HALF.false c.requires.1)
 
 pub overflow_add-at : goal.overflow_add-at
 overflow_add-at c = omega arith
@@ -79,14 +69,9 @@ pub loop-at-smaller : goal.loop-at-smaller
 loop-at-smaller c = omega arith
 
 pub loop-at-preserved : goal.loop-at-preserved
-loop-at-preserved c =
-    let d = c.before.before in
-    let t = d.before.before in
-    more t.loop-at.invariant t.loop-at-test.true d.digit_in-d.ensures (omega arith)
+loop-at-preserved c = more c.loop-at.invariant c.loop-at-test.true c.digit_in-d.ensures c.if-base-d.false
 
 pub returns : goal.returns
 returns c =
-    record {
-      end = (ended c.loop-at.invariant (run_end _ _ _ c.loop-at-test.false)).0;
-      value = (ended c.loop-at.invariant (run_end _ _ _ c.loop-at-test.false)).1;
-    }
+    let e = ended c.loop-at.invariant (run_end _ _ _ c.loop-at-test.false) in
+    record { end = e.0; value = e.1 }

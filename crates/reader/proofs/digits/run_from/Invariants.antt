@@ -1,9 +1,8 @@
 -- `run_from` meets its contract. The loop's invariant, `Reached`: only digits were passed, and the value is what they are worth. The
 -- measure is what is left of the length.
-use Rattle.std.proofs.Common.{◌≡◌, ℕ, ◌+◌, ◌-◌, ◌*◌, ◌<◌, ◌≤◌, List, [], length, get_or, drop, refl, ap, ◌∙◌, mul-le-mul, arith, rules}
-use Rattle.reader.specs.Reading.{digit, run, worth}
-use Rattle.reader.specs.inner.Steps.{StandsFor, DigitIn}
-use Rattle.reader.proofs.Laws.{run_more, run_none, run_end, Passed, one_passed, all_passed, cut_settled}
+use Rattle.std.proofs.Common.{◌≡◌, ℕ, ◌-◌, List, length, drop}
+use Rattle.reader.specs.Reading.{run, worth}
+use Rattle.reader.proofs.Laws.{Passed}
 use Rattle.reader.proofs.digits.run_from.Given as goal
 
 pub record Reached (text : List ℕ) (first base value at : ℕ) : Type 0 where

@@ -1,5 +1,4 @@
 -- `goes_on` meets its contract.
-use Rattle.std.proofs.Common.{rules}
 use Rattle.reader.proofs.judge.goes_on.Goals as goal
 
 pub returns-then-whole : goal.returns-then-whole

@@ -1,5 +1,5 @@
 -- `reading_of` meets its contract.
-use Rattle.std.proofs.Common.{sym, ◌∙◌, rules, eq-eqb, ne_eqb}
+use Rattle.std.proofs.Common.{sym, ◌∙◌, eq-eqb, ne_eqb}
 use Rattle.reader.proofs.words.reading_of.Goals as goal
 
 pub returns-then-number-eq0 : goal.returns-then-number-eq0
