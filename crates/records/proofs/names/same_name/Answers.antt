@@ -30,14 +30,6 @@ module _ (a b : List ℕ) (left : ℕ) (long : length a ≡ length b) (so_far : 
   stopped : alike ≡ false → same_name a b ≡ false
   stopped e = rw (so_far, same_more a b (length a - left) (omega arith) (omega arith), e)
 
--- at the loop's head
-module _ (h : goal.At-loop-left) where
-  abbrev a : List ℕ
-  a = h.args.a.now
-
-  abbrev b : List ℕ
-  b = h.args.b.now
-
 pub returns-then-a-b : goal.returns-then-a-b
 returns-then-a-b c = sym (other_length _ _ (λ e. omega arith))
 
@@ -61,20 +53,17 @@ loop-left-smaller c = omega arith
 
 pub loop-left-preserved : goal.loop-left-preserved
 loop-left-preserved c =
-    let h = c.before.before.before.before.before in
+    let i = c.loop-left.invariant in
     let told = sym c.is_alike.ensures ∙ c.if-is_alike.true in
-    let i = h.loop-left.invariant in
-    (i.0, omega arith, more (a h) (b h) h.loop-left.left i.0 i.2 (omega arith) i.1 told)
+    (i.0, omega arith, more _ _ c.loop-left.left i.0 i.2 (omega arith) i.1 told)
 
 pub returns-else-is_alike : goal.returns-else-is_alike
 returns-else-is_alike c =
-    let h = c.before.before.before.before.before in
+    let i = c.loop-left.invariant in
     let told = sym c.is_alike.ensures ∙ c.if-is_alike.false in
-    let i = h.loop-left.invariant in
-    sym (stopped (a h) (b h) h.loop-left.left i.0 i.2 (omega arith) i.1 told)
+    sym (stopped _ _ c.loop-left.left i.0 i.2 (omega arith) i.1 told)
 
 pub returns : goal.returns
 returns c =
-    let h = c.before in
-    let i = h.loop-left.invariant in
-    sym (i.2 ∙ same_end (a h) (b h) (length (a h) - h.loop-left.left) (omega arith) (omega arith))
+    let i = c.loop-left.invariant in
+    sym (i.2 ∙ same_end _ _ (length c.args.a.now - c.loop-left.left) (omega arith) (omega arith))
