@@ -46,14 +46,17 @@ module _ {table : List ℕ} where
 
   -- a record of a chain starts at its place, not before the chain does
   pub later : {stop place : ℕ} {es : List Entry} {e : Entry} → Chain table stop place es → Memᴰ e es → place ≤ e.place
+  later (end _) m = elim m [ ]
   later {place = place} (next r) (head q) = omega (arith, ap (λ x. x.place) q, place_of table place)
   later (next r) (tail m) = omega (arith, later r m)
 
   pub starts : {stop place : ℕ} {es : List Entry} {e : Entry} → Chain table stop place es → Memᴰ e es → e ≡ entry_at table e.place
+  starts (end _) m = elim m [ ]
   starts {place = place} (next r) (head q) = q ∙ ap (entry_at table) (sym (ap (λ x. x.place) q ∙ place_of table place))
   starts (next r) (tail m) = starts r m
 
   pub split : {stop place : ℕ} {es : List Entry} {e : Entry} → Chain table stop place es → Memᴰ e es → Split table place es e
+  split (end _) m = elim m [ ]
   split {place = place} (next {es = es} r) (head q) =
       record { front = []; back = es; whole = ap (λ x. x ∷ es) (sym q); up_to = end (sym (ap (λ x. x.place) q ∙ place_of table place)) }
   split {place = place} (next r) (tail m) =

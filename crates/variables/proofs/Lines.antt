@@ -147,8 +147,8 @@ module _ (farm house : List ℕ) (holder : Holder) (name others : List ℕ) wher
 
 -- which of the two holds it says nothing where both are one
 pub both_one : (holder : Holder) (table : List ℕ) → held_by holder table table ≡ table
-both_one Farm table = refl
-both_one House table = refl
+both_one Farm _ = refl
+both_one House _ = refl
 
 pub or_nowhere : (h : Holding) → or_else h nowhere ≡ h
 or_nowhere nowhere = refl

@@ -1,6 +1,7 @@
 // Variables: is a table good (here), are two of them, and where does a variable's value lie (`both`), the keys that look-ups go by (`keys`),
 // the lines that a look-up passes over (`blocks`), and the notes that spare a check most of its look-ups (`notes`).
 #![tactic(auto)]
+
 ghost use Rattle.std.specs.Prelude.{◌≡◌, ◌≤◌, length};
 ghost use Rattle.variables.specs.Tables.{bad_table_at, is_new, sound, scan, most, checked};
 ghost use Rattle.variables.specs.inner.Keys.{laid_over, passed_lines, no_match};

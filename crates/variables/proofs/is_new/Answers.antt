@@ -5,7 +5,6 @@ use mathlib.Core.List.{List}
 use mathlib.Core.Path.{◌≡◌, refl, ap, sym, ◌∙◌}
 use Prim.Native.Nat.{ℕ}
 use native.Mathlib.Omega.{arith}
-use borrow.Author.Rules.{rules}
 use lib.ListN.{length}
 use Rattle.paper.specs.declared.Holder.{Holder}
 use Rattle.records.specs.Records.{name_at}
@@ -16,8 +15,7 @@ use Rattle.variables.specs.inner.Keys.{sought_by, Without, match_as, no_match}
 use Rattle.variables.specs.inner.Notes.{noted, Earlier}
 use Rattle.variables.proofs.Lines.{unmet, passed_over, by_own}
 use Rattle.variables.proofs.NoteLaws.{other_keys}
-use Rattle.variables.proofs.is_new.Statement.{statement}
-use Rattle.variables.proofs.is_new.Tie as tie
+use Rattle.variables.proofs.is_new.Goals as goal
 
 none_found : (table : List ℕ) (holder : Holder) (m : Sought) → no_match (match_as table table (held_in holder m)) ≡ is_absent m
 none_found table holder absent = refl
@@ -39,27 +37,16 @@ module _ (table : List ℕ) (place : ℕ) (keys notes : List ℕ) (line : ℕ) (
       let none = passed_over table table keys name (length keys) others ∙ unmet table table keys name (length keys) (omega arith) in
       ap (λ h. no_match (match_as table table h)) (sym none) ∙ known
 
-returns : tie.Need-returns
-returns c =
+pub returns-then-is_noted : goal.returns-then-is_noted
+returns-then-is_noted c =
     let f = c.before in
     let s = f.before.before.before.before.before.before in
     let table = s.args.table.now in
-    c.is-missing.ensures
-    ∙ ap no_match (f.find.ensures ∙ ap (λ n. match_as table table (sought_by table table s.args.keys.now n)) f.before.name_at.ensures)
+    c.is_missing.ensures
+    ∙ ap no_match (f.find.ensures ∙ ap (λ n. match_as table table (sought_by table table s.args.keys.now n)) f.name_at.ensures)
     ∙ known _ _ _ _ _ s.requires
 
-returns-2 : tie.Need-returns-2
-returns-2 c =
+pub returns : goal.returns
+returns c =
     let m = c.before in
-    unnoted _ _ _ _ _ m.before.before.before.requires (sym m.is-noted.ensures ∙ c.if1.false)
-
-pub is_new_spec : {M : Type 1} → statement M
-is_new_spec =
-    tie.close
-    (tie.spec
-    (λ c κs. search rules)
-    (λ c κs. search rules)
-    (λ c κs. search rules)
-    (λ c κs. search rules)
-    returns
-    returns-2)
+    unnoted _ _ _ _ _ m.requires (sym m.is_noted.ensures ∙ c.if-is_noted.false)
