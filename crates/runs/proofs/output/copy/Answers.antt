@@ -28,10 +28,8 @@ loop-i-init c =
     (omega arith, omega arith, paste-zero a.out.now a.to a.«from».now)
 
 -- the buffer is as long as it was
-as_long : (c : goal.At-loop-i) → length c.loop-i.out ≡ length c.args.out.now
-as_long c =
-    let a = c.args in
-    ap length c.loop-i.invariant.2 ∙ length-paste a.out.now a.to a.«from».now c.loop-i.i (omega arith) (omega arith)
+as_long : (out now given : List ℕ) (to i : ℕ) → i ≤ length given → to + length given ≤ length out → now ≡ paste out to given i → length now ≡ length out
+as_long out now given to i low fits e = ap length e ∙ length-paste out to given i (omega arith) (omega arith)
 
 pub bounds-from-i : goal.bounds-from-i
 bounds-from-i c = omega arith
@@ -40,7 +38,10 @@ pub overflow_add-out : goal.overflow_add-out
 overflow_add-out c = omega arith
 
 pub bounds-out-to : goal.bounds-out-to
-bounds-out-to c = omega (arith, as_long c.before.before)
+bounds-out-to c =
+    let a = c.args in
+    let l = c.loop-i in
+    omega (arith, as_long a.out.now l.out a.«from».now a.to l.i l.invariant.0 l.invariant.1 l.invariant.2)
 
 pub overflow_add-i : goal.overflow_add-i
 overflow_add-i c = omega arith
