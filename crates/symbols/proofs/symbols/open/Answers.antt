@@ -1,5 +1,5 @@
 -- `open` meets its contract: its test is the definition's.
-use mathlib.Core.Bool.{Bool, cond, not, ◌&&◌}
+use mathlib.Core.Bool.{Bool, true, false, cond, not, ◌&&◌}
 use mathlib.Core.List.{List}
 use mathlib.Core.Path.{◌≡◌, refl, ap, ◌∙◌}
 use Prim.Native.Nat.{ℕ, ◌+◌}
@@ -11,6 +11,7 @@ use Rattle.paper.specs.Bytes.{space, spaces}
 use Rattle.paper.proofs.Choice.{hit, skip}
 use Rattle.paper.proofs.Runs.{run_short}
 use Rattle.symbols.specs.Flags.{quote_plain}
+use Rattle.symbols.specs.inner.SymbolSteps.{marks}
 use Rattle.symbols.specs.Symbols.{first_at, mode_of}
 use Rattle.symbols.specs.declared.forms.Mode.TheVariants.{Plain, Quoted}
 use Rattle.symbols.specs.declared.forms.Mode.{Mode}
@@ -26,39 +27,33 @@ first_from text flags start = cond (opens text flags start) (start + 1) start
 abbrev mode_from : List ℕ → ℕ → ℕ → Mode
 mode_from text flags start = cond (opens text flags start) (Quoted (record { 0 = start })) Plain
 
-module _ (c : goal.After-is_mark) where
-  abbrev text : List ℕ
-  text = c.args.text.now
-
-  abbrev flags : ℕ
-  flags = c.args.flags.0
-
-  abbrev start : ℕ
-  start = c.skip-start.result
-
-  begins : start ≡ spaces text
-  begins = c.skip-start.ensures ∙ zero-add _
-
-  marked : {b : Bool} → c.is_mark.result ≡ b → (eqb (get_or text start 0) 34 && not (quote_plain flags)) ≡ b
-  marked e = rw (← c.byte.ensures, ← c.is_mark.ensures) e
+-- the test of the code is the definitions' test
+marked : (text : List ℕ) (flags start c : ℕ) (b : Bool) → c ≡ get_or text start 0 → marks 34 flags 2147483648 c ≡ b → opens text flags start ≡ b
+marked text flags start c b e m = rw (← e) m
 
 pub overflow_add-result : goal.overflow_add-result
-overflow_add-result c = omega (arith, begins c.before, run_short space (text c.before))
+overflow_add-result c = omega (arith, zero-add (spaces c.args.text.now), run_short space c.args.text.now)
 
 pub returns-then-is_mark : goal.returns-then-is_mark
 unfolding first_at mode_of
 returns-then-is_mark c =
-    let m = c.before in
-    let b = marked m c.if-is_mark.true in (
-      hit (opens (text m) (flags m) (start m)) _ _ b refl ∙ ap (first_from (text m) (flags m)) (begins m),
-      hit (opens (text m) (flags m) (start m)) _ _ b refl ∙ ap (mode_from (text m) (flags m)) (begins m),
+    let text = c.args.text.now in
+    let flags = c.args.flags.0 in
+    let start = c.skip-start.result in
+    let begins : start ≡ spaces text = c.skip-start.ensures ∙ zero-add _ in
+    let b = marked text flags start c.byte.result true c.byte.ensures (rw (← c.is_mark.ensures) c.if-is_mark.true) in (
+      hit (opens text flags start) _ _ b refl ∙ ap (first_from text flags) begins,
+      hit (opens text flags start) _ _ b refl ∙ ap (mode_from text flags) begins,
     )
 
 pub returns : goal.returns
 unfolding first_at mode_of
 returns c =
-    let m = c.before in
-    let b = marked m c.if-is_mark.false in (
-      skip (opens (text m) (flags m) (start m)) _ _ b refl ∙ ap (first_from (text m) (flags m)) (begins m),
-      skip (opens (text m) (flags m) (start m)) _ _ b refl ∙ ap (mode_from (text m) (flags m)) (begins m),
+    let text = c.args.text.now in
+    let flags = c.args.flags.0 in
+    let start = c.skip-start.result in
+    let begins : start ≡ spaces text = c.skip-start.ensures ∙ zero-add _ in
+    let b = marked text flags start c.byte.result false c.byte.ensures (rw (← c.is_mark.ensures) c.if-is_mark.false) in (
+      skip (opens text flags start) _ _ b refl ∙ ap (first_from text flags) begins,
+      skip (opens text flags start) _ _ b refl ∙ ap (mode_from text flags) begins,
     )
