@@ -1,5 +1,5 @@
 -- `at_most` meets its contract: at most is not less the other way round.
-use Rattle.std.proofs.Common.{◌≡◌, ℕ, Bool, true, false, not, ltb, leb, ℤ, pos, negsuc, sym, refl, ap, ◌∙◌, rules, ltb-false, ltb-true, le-leb}
+use Rattle.std.proofs.Common.{◌≡◌, ℕ, Bool, true, false, not, ltb, leb, ℤ, pos, negsuc, sym, refl, ap, ◌∙◌, ltb-false, ltb-true, le-leb}
 use lib.Signed.{lt_z, le_z}
 use borrow.Author.Tests.{lt-leb}
 use Rattle.arithmetic.specs.Values.{signed, less, at_most}

@@ -1,5 +1,4 @@
 -- `binary` meets its contract: each operator as in the definition.
-use Rattle.std.proofs.Common.{rules}
 use Rattle.arithmetic.proofs.values.binary.Goals as goal
 
 pub returns-in-Times : goal.returns-in-Times

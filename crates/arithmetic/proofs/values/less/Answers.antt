@@ -1,5 +1,5 @@
 -- `less` meets its contract: patterns with the half added to them, modulo 2 to the 32, are in the order of their numbers.
-use Rattle.std.proofs.Common.{◌≡◌, ℕ, ◌-◌, ◌<◌, ◌≤◌, Bool, true, false, ltb, pos, negsuc, sym, refl, ◌∙◌, ap₂, arith, rules, ltb-false, ltb-true, le-ltb, lt-ltb}
+use Rattle.std.proofs.Common.{◌≡◌, ℕ, ◌-◌, ◌<◌, ◌≤◌, Bool, true, false, ltb, pos, negsuc, sym, refl, ◌∙◌, ap₂, arith, ltb-false, ltb-true, le-ltb, lt-ltb}
 use lib.Signed.{lt_z}
 use Rattle.arithmetic.specs.Values.{signed, sum, less}
 use Rattle.arithmetic.proofs.Signs.{by_sign}

@@ -1,5 +1,5 @@
 -- `product` meets its contract: the product of two patterns fits 64 bits.
-use Rattle.std.proofs.Common.{◌≤◌, refl, mul-le-mul, arith, rules}
+use Rattle.std.proofs.Common.{◌≤◌, refl, mul-le-mul, arith}
 use Rattle.arithmetic.specs.Values.{product}
 use Rattle.arithmetic.proofs.values.product.Goals as goal
 

@@ -1,5 +1,5 @@
 -- `quotient` meets its contract: the quotient of the sizes, turned around where one number alone is negative.
-use Rattle.std.proofs.Common.{◌≡◌, ℕ, ◌/◌, ◌<◌, Bool, true, false, cond, ℤ, pos, negsuc, neg_ℤ, nat_abs, sym, refl, ◌∙◌, zero-le, mod-eq_of_lt, div-le_self, arith, rules, le-ltb}
+use Rattle.std.proofs.Common.{◌≡◌, ℕ, ◌/◌, ◌<◌, Bool, true, false, cond, ℤ, pos, negsuc, neg_ℤ, nat_abs, sym, refl, ◌∙◌, zero-le, mod-eq_of_lt, div-le_self, arith, le-ltb}
 use mathlib.Core.Bool.{beq}
 use native.Mathlib.Nat.{div-zero}
 use lib.Signed.{lt_z, quot_z}
@@ -26,25 +26,23 @@ sized (pos a) (negsuc b) = rw (le-ltb a 0 zero-le)
 sized (negsuc a) (pos b) = rw (le-ltb b 0 zero-le)
 sized (negsuc a) (negsuc b) = refl
 
-abbrev whole : goal.After-size-2 → ℕ
-whole c = c.size.result / c.size-2.result
-
-whole_fits : (c : goal.After-size-2) → whole c < 4294967296
-whole_fits c = omega (arith, div-le_self c.size.result c.size-2.result)
-
-by_sizes : (c : goal.After-is_negative-2) (same : Bool) → beq c.is_negative.result c.is_negative-2.result ≡ same
-    → quotient c.args.lhs c.args.rhs
-    ≡ wrapped (cond same (pos (whole c.before.before)) (neg_ℤ (pos (whole c.before.before))))
+-- the quotient by what the calls give: the sizes `m` and `n`, and whether each number is negative
+by_sizes : (lhs rhs m n : ℕ) (left right same : Bool)
+    → m ≡ nat_abs (signed lhs) → n ≡ nat_abs (signed rhs)
+    → left ≡ lt_z (signed lhs) (pos 0) → right ≡ lt_z (signed rhs) (pos 0) → beq left right ≡ same
+    → quotient lhs rhs ≡ wrapped (cond same (pos (m / n)) (neg_ℤ (pos (m / n))))
 unfolding quotient
-by_sizes c same e =
-    let s = c.before.before in
-    let a = s.args in
-    rw (sized (signed a.lhs) (signed a.rhs), ← s.size.ensures, ← s.size-2.ensures, ← c.is_negative.ensures, ← c.is_negative-2.ensures, e)
+by_sizes lhs rhs m n left right same em en el er e = rw (sized (signed lhs) (signed rhs), ← em, ← en, ← el, ← er, e)
 
 pub returns-then-is_negative : goal.returns-then-is_negative
-returns-then-is_negative c = sym (mod-eq_of_lt (whole_fits c.before.before.before)) ∙ sym (by_sizes c.before true c.if-is_negative.true)
+returns-then-is_negative c =
+    let fits : c.size.result / c.size-2.result < 4294967296 = omega (arith, div-le_self c.size.result c.size-2.result) in
+    sym (mod-eq_of_lt fits)
+    ∙ sym (by_sizes _ _ _ _ _ _ true c.size.ensures c.size-2.ensures c.is_negative.ensures c.is_negative-2.ensures c.if-is_negative.true)
 
 pub returns : goal.returns
 returns c =
-    let n = c.before.before in
-    c.difference.ensures ∙ turned (whole n.before.before) (whole_fits n.before.before) ∙ sym (by_sizes n false c.if-is_negative.false)
+    let q = c.size.result / c.size-2.result in
+    let fits : q < 4294967296 = omega (arith, div-le_self c.size.result c.size-2.result) in
+    c.difference.ensures ∙ turned q fits
+    ∙ sym (by_sizes _ _ _ _ _ _ false c.size.ensures c.size-2.ensures c.is_negative.ensures c.is_negative-2.ensures c.if-is_negative.false)

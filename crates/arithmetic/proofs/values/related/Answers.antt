@@ -1,5 +1,4 @@
 -- `related` meets its contract: each relation as in the definition.
-use Rattle.std.proofs.Common.{rules}
 use Rattle.arithmetic.proofs.values.related.Goals as goal
 
 pub returns-in-Equal : goal.returns-in-Equal

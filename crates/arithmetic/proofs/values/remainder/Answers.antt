@@ -1,5 +1,5 @@
 -- `remainder` meets its contract: the remainder of the sizes, turned around where the left side is negative.
-use Rattle.std.proofs.Common.{◌≡◌, ℕ, ◌%◌, ◌<◌, Bool, true, false, cond, ℤ, pos, negsuc, neg_ℤ, nat_abs, sym, refl, ◌∙◌, zero-le, mod-eq_of_lt, arith, rules, le-ltb}
+use Rattle.std.proofs.Common.{◌≡◌, ℕ, ◌%◌, ◌<◌, Bool, true, false, cond, ℤ, pos, negsuc, neg_ℤ, nat_abs, sym, refl, ◌∙◌, zero-le, mod-eq_of_lt, arith, le-ltb}
 use native.Mathlib.Nat.{mod-zero, mod-le}
 use lib.Signed.{lt_z, rem_z}
 use Rattle.arithmetic.specs.Values.{signed, wrapped, remainder}
@@ -22,29 +22,22 @@ sized : (a b : ℤ) → rem_z a b ≡ cond (lt_z a (pos 0)) (neg_ℤ (pos (nat_a
 sized (pos a) b = rw (le-ltb a 0 zero-le)
 sized (negsuc a) b = refl
 
-abbrev rest : goal.After-size-2 → ℕ
-rest c = c.size.result % c.size-2.result
-
-rest_fits : (c : goal.After-size-2) → rest c < 4294967296
-rest_fits c = omega (arith, mod-le c.size.result c.size-2.result)
-
--- the sign is the left side's
-negative : (c : goal.After-is_negative) → c.is_negative.result ≡ lt_z (signed c.args.lhs) (pos 0)
-negative c = c.is_negative.ensures
-
-by_sizes : (c : goal.After-is_negative) (below : Bool) → c.is_negative.result ≡ below
-    → remainder c.args.lhs c.args.rhs
-    ≡ wrapped (cond below (neg_ℤ (pos (rest c.before))) (pos (rest c.before)))
+-- the remainder by what the calls give: the sizes `m` and `n`; the sign is the left side's
+by_sizes : (lhs rhs m n : ℕ) (below : Bool)
+    → m ≡ nat_abs (signed lhs) → n ≡ nat_abs (signed rhs) → below ≡ lt_z (signed lhs) (pos 0)
+    → remainder lhs rhs ≡ wrapped (cond below (neg_ℤ (pos (m % n))) (pos (m % n)))
 unfolding remainder
-by_sizes c below e =
-    let s = c.before in
-    let a = s.args in
-    rw (sized (signed a.lhs) (signed a.rhs), ← s.size.ensures, ← s.size-2.ensures, ← negative c, e)
+by_sizes lhs rhs m n below em en e = rw (sized (signed lhs) (signed rhs), ← em, ← en, ← e)
 
 pub returns-then-is_negative : goal.returns-then-is_negative
 returns-then-is_negative c =
-    let n = c.before.before in
-    c.difference.ensures ∙ turned (rest n.before) (rest_fits n.before) ∙ sym (by_sizes n true c.if-is_negative.true)
+    let m = c.size.result % c.size-2.result in
+    let fits : m < 4294967296 = omega (arith, mod-le c.size.result c.size-2.result) in
+    c.difference.ensures ∙ turned m fits
+    ∙ sym (by_sizes _ _ _ _ true c.size.ensures c.size-2.ensures (sym c.if-is_negative.true ∙ c.is_negative.ensures))
 
 pub returns : goal.returns
-returns c = sym (mod-eq_of_lt (rest_fits c.before.before)) ∙ sym (by_sizes c.before false c.if-is_negative.false)
+returns c =
+    let fits : c.size.result % c.size-2.result < 4294967296 = omega (arith, mod-le c.size.result c.size-2.result) in
+    sym (mod-eq_of_lt fits)
+    ∙ sym (by_sizes _ _ _ _ false c.size.ensures c.size-2.ensures (sym c.if-is_negative.false ∙ c.is_negative.ensures))

@@ -1,5 +1,5 @@
 -- `shifted_left` meets its contract: it tests the amount as the definition does.
-use Rattle.std.proofs.Common.{refl, rules}
+use Rattle.std.proofs.Common.{refl}
 use Rattle.paper.proofs.Choice.{below, not_below}
 use Rattle.arithmetic.specs.Values.{shifted_left}
 use Rattle.arithmetic.proofs.values.shifted_left.Goals as goal

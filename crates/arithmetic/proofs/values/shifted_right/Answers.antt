@@ -1,5 +1,5 @@
 -- `shifted_right` meets its contract: a negative number is shifted as its complement.
-use Rattle.std.proofs.Common.{◌≡◌, ℕ, ◌-◌, ◌/◌, ◌^◌, ◌<◌, Bool, true, false, cond, ltb, ℤ, pos, negsuc, sym, refl, ap, ◌∙◌, zero-le, div-le_self, arith, rules, le-ltb}
+use Rattle.std.proofs.Common.{◌≡◌, ℕ, ◌-◌, ◌/◌, ◌^◌, ◌<◌, Bool, true, false, cond, ltb, ℤ, pos, negsuc, sym, refl, ap, ◌∙◌, zero-le, div-le_self, arith, le-ltb}
 use lib.Signed.{lt_z, shr_z}
 use Rattle.arithmetic.specs.Values.{wrapped, truth, shifted_right, shifted_right_unsigned}
 use Rattle.arithmetic.proofs.Signs.{if-negative, if-positive}

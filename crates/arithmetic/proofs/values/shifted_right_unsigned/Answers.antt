@@ -1,5 +1,5 @@
 -- `shifted_right_unsigned` meets its contract: it tests the amount as the definition does.
-use Rattle.std.proofs.Common.{refl, rules}
+use Rattle.std.proofs.Common.{refl}
 use Rattle.paper.proofs.Choice.{below, not_below}
 use Rattle.arithmetic.specs.Values.{shifted_right_unsigned}
 use Rattle.arithmetic.proofs.values.shifted_right_unsigned.Goals as goal

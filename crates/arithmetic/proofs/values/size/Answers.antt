@@ -1,5 +1,5 @@
 -- `size` meets its contract: a negative number's size is zero less its pattern.
-use Rattle.std.proofs.Common.{◌≡◌, nat_abs, sym, refl, ◌∙◌, arith, rules}
+use Rattle.std.proofs.Common.{◌≡◌, nat_abs, sym, refl, ◌∙◌, arith}
 use Rattle.arithmetic.specs.Values.{difference}
 use Rattle.arithmetic.proofs.Signs.{if-negative, if-positive}
 use Rattle.arithmetic.proofs.values.size.Goals as goal

@@ -1,5 +1,4 @@
 -- `sum` meets its contract: the wrapping sum is the definition's.
-use Rattle.std.proofs.Common.{rules}
 use Rattle.arithmetic.specs.Values.{sum}
 use Rattle.arithmetic.proofs.values.sum.Goals as goal
 

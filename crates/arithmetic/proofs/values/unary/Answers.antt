@@ -1,5 +1,4 @@
 -- `unary` meets its contract: each operator as in the definition.
-use Rattle.std.proofs.Common.{rules}
 use Rattle.arithmetic.proofs.values.unary.Goals as goal
 
 pub returns-in-Not : goal.returns-in-Not
