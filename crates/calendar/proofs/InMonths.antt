@@ -1,19 +1,15 @@
 -- The month of a day by a division and a step, by one test of every day of a year.
 use mathlib.Core.Bool.{Bool, true, false, cond, ◌&&◌, and-eq-true_iff}
-use mathlib.Core.List.{List}
-use mathlib.Core.Path.{◌≡◌, refl, ap, ap₂, sym, subst, ◌∙◌}
+use mathlib.Core.Path.{◌≡◌, refl, ap, sym, subst, ◌∙◌}
 use Prim.Native.Nat.{ℕ, zero, suc, ◌+◌, ◌-◌, ◌/◌, ◌≤◌, ◌<◌}
 use native.Mathlib.Decide.{dec_lt}
-use native.Mathlib.Numerals.{add-one}
 use native.Mathlib.Omega.{arith}
 use lib.Dec.{leb, ltb, eqb}
-use lib.ListN.{length, get_or}
 use borrow.Author.Tests.{le-leb, lt-leb, leb-true, eqb-true}
 use Rattle.paper.proofs.Choice.{hit, skip, either}
 use Rattle.calendar.specs.Counting.{year_length, total, months}
 use Rattle.calendar.specs.Dates.{last_begun}
 use Rattle.calendar.specs.inner.Places.{place_in_month, in_leap_year}
-use Rattle.calendar.proofs.Totals.{tabulates, entry}
 
 -- a test that all numbers below one pass
 abbrev pub passes : (ℕ → Bool) → ℕ → Bool

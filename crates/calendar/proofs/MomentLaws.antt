@@ -1,7 +1,7 @@
 -- The moment of a time, from where its day lies in its year and in its month.
 use mathlib.Core.Bool.{Bool}
-use mathlib.Core.Path.{◌≡◌, refl, ap, sym, ◌∙◌}
-use Prim.Native.Nat.{ℕ, suc, ◌+◌, ◌-◌, ◌/◌, ◌%◌}
+use mathlib.Core.Path.{◌≡◌, ap, ◌∙◌}
+use Prim.Native.Nat.{ℕ, suc, ◌+◌, ◌/◌, ◌%◌}
 use native.Mathlib.Numerals.{add-one}
 use lib.Arith.{mod-mul}
 use native.Mathlib.Omega.{arith}

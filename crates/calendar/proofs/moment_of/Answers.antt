@@ -1,59 +1,51 @@
 -- `moment_of` meets its contract: five bytes hold no day behind the last that the table knows.
-use mathlib.Core.Path.{◌≡◌, ap, sym, subst, ◌∙◌}
-use Prim.Native.Nat.{ℕ, ◌+◌, ◌*◌, ◌/◌, ◌≤◌, ◌<◌}
+use mathlib.Core.Bool.{Bool}
+use mathlib.Core.Path.{◌≡◌, sym, subst}
+use Prim.Native.Nat.{ℕ, ◌+◌, ◌*◌, ◌≤◌, ◌<◌}
 use native.Mathlib.Omega.{arith}
 use Rattle.calendar.specs.Counting.{leap, year_length, years, months}
-use Rattle.calendar.specs.Moments.{day_of}
+use Rattle.calendar.specs.inner.Places.{place_in_year, place_in_month}
+use Rattle.calendar.specs.declared.years.InYear.{InYear}
+use Rattle.calendar.specs.declared.months.InMonth.{InMonth}
 use Rattle.calendar.proofs.Totals.{begun_within}
 use Rattle.calendar.proofs.InYears.{length_range}
 use Rattle.calendar.proofs.DateLaws.{within_year}
 use Rattle.calendar.proofs.MomentLaws.{moment_is}
 use Rattle.calendar.proofs.moment_of.Goals as goal
 
--- the day's number, and where it lies in its year
-module _ (c : goal.After-in_year-place) where
-  abbrev time : ℕ
-  time = c.args.low + 4294967296 * c.args.high
+-- where a day lies in its year
+module _ (day : ℕ) (place : InYear) (is : place ≡ place_in_year day) where
+  few_years : place.years ≤ 348
+  few_years = subst (λ y. y.years ≤ 348) (sym is) (begun_within years 348 day)
 
-  early : day_of time < 127259
-  early = omega arith
+  inside : day < 127259 → place.day < year_length (leap (1900 + place.years))
+  inside early = subst (λ y. y.day < year_length (leap (1900 + y.years))) (sym is) (within_year day early)
 
-  few_years : c.in_year-place.result.years ≤ 348
-  few_years = subst (λ y. y.years ≤ 348) (sym c.in_year-place.ensures) (begun_within years 348 (day_of time))
+  few_days : day < 127259 → place.day < 366
+  few_days early = omega (arith, inside early, (length_range (leap (1900 + place.years))).1)
 
-  inside : c.in_year-place.result.day < year_length (leap (1900 + c.in_year-place.result.years))
-  inside = subst (λ y. y.day < year_length (leap (1900 + y.years))) (sym c.in_year-place.ensures) (within_year (day_of time) early)
-
-  few_days : c.in_year-place.result.day < 366
-  few_days = omega (arith, inside, (length_range (leap (1900 + c.in_year-place.result.years))).1)
+-- a month and a day of it are no more than the day of the year
+few_months : (l : Bool) (day : ℕ) (date : InMonth) → date ≡ place_in_month l day → (date.months ≤ 11) × (date.day ≤ day)
+few_months l day date is = subst (λ m. (m.months ≤ 11) × (m.day ≤ day)) (sym is) (begun_within (months l) 11 day, omega arith)
 
 pub overflow_add-year : goal.overflow_add-year
-overflow_add-year c = record { fits = omega (arith, few_years c.before) }
+overflow_add-year c = record { fits = omega (arith, few_years _ _ c.in_year-place.ensures) }
 
 pub in_month-date-requires : goal.in_month-date-requires
 in_month-date-requires c =
-    let at = c.before.before in
-    subst (λ l. at.in_year-place.result.day < year_length l) (sym c.has_29_february.ensures) (inside at)
+    subst (λ l. c.in_year-place.result.day < year_length l) (sym c.has_29_february.ensures) (inside _ _ c.in_year-place.ensures (omega arith))
 
 pub overflow_add-result : goal.overflow_add-result
-overflow_add-result c = record { fits = omega (arith, few_days c.before.before.before.before) }
-
--- a month and a day of it are no more than the day of the year
-few_months : (c : goal.After-in_month-date) → (c.in_month-date.result.months ≤ 11) × (c.in_month-date.result.day < 366)
-few_months c =
-    let y = c.before.before.before in
-    subst (λ m. (m.months ≤ 11) × (m.day < 366)) (sym c.in_month-date.ensures)
-    (begun_within (months c.has_29_february.result) 11 y.in_year-place.result.day, omega (arith, few_days y))
+overflow_add-result c = record { fits = omega (arith, few_days _ _ c.in_year-place.ensures (omega arith)) }
 
 pub overflow_add-result-2 : goal.overflow_add-result-2
-overflow_add-result-2 c = record { fits = omega (arith, (few_months c.before.before).1) }
+overflow_add-result-2 c =
+    record { fits = omega (arith, few_days _ _ c.in_year-place.ensures (omega arith), (few_months _ _ _ c.in_month-date.ensures).1) }
 
 pub overflow_add-result-3 : goal.overflow_add-result-3
-overflow_add-result-3 c = record { fits = omega (arith, (few_months c.before.before.before).0) }
+overflow_add-result-3 c = record { fits = omega (arith, (few_months _ _ _ c.in_month-date.ensures).0) }
 
 pub returns : goal.returns
 returns c =
-    let month = c.before.before.before in
-    let year = month.before.before.before in
-    moment_is (time year) year.in_year-place.result month.has_29_february.result month.in_month-date.result
-    year.in_year-place.ensures month.has_29_february.ensures month.in_month-date.ensures
+    moment_is (c.args.low + 4294967296 * c.args.high) c.in_year-place.result c.has_29_february.result c.in_month-date.result
+    c.in_year-place.ensures c.has_29_february.ensures c.in_month-date.ensures

@@ -1,5 +1,5 @@
 -- Where a day lies in its year and in its month.
-use Rattle.std.specs.Prelude.{Bool, cond, ℕ, suc, ◌+◌, ◌-◌, ltb}
+use Rattle.std.specs.Prelude.{Bool, cond, ℕ, ◌+◌, ◌-◌, ltb}
 use Rattle.calendar.specs.Counting.{total, months}
 use Rattle.calendar.specs.Dates.{last_begun, years_by, days_into}
 use Rattle.calendar.specs.declared.years.InYear.{InYear}

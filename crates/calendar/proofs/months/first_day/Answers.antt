@@ -2,10 +2,9 @@
 use mathlib.Core.Bool.{true}
 use mathlib.Core.Path.{refl}
 use Rattle.calendar.specs.Counting.{months}
+use Rattle.calendar.specs.declared.months.TheConstants.{FIRST_DAYS}
 use Rattle.calendar.proofs.Totals.{entry}
-use Rattle.calendar.proofs.months.first_day.Reads as reads
-use Rattle.calendar.proofs.months.first_day.Lts as lts
 use Rattle.calendar.proofs.months.first_day.Goals as goal
 
 pub returns : goal.returns
-returns c = entry (months true) (lts.m9 reads.Pre reads.Post c.args c.blocks).1.1.0 refl c.args.before c.requires
+returns c = entry (months true) FIRST_DAYS refl c.args.before c.requires

@@ -1,23 +1,34 @@
 -- `first_day` meets its contract: every step of the table is a year's length, by one test of all of them, and each arm reads the table at
 -- the year.
+use mathlib.Core.Bool.{true}
+use mathlib.Core.List.{List}
 use mathlib.Core.Path.{◌≡◌, refl, ap, ◌∙◌}
 use Prim.Native.Nat.{ℕ, ◌+◌, ◌%◌, ◌<◌}
 use native.Mathlib.Omega.{arith}
-use lib.ListN.{get_or}
+use lib.ListN.{length, get_or}
 use Rattle.calendar.specs.Counting.{years, first_day}
-use Rattle.calendar.proofs.Totals.{entry}
-use Rattle.calendar.proofs.years.first_day.Reads as reads
-use Rattle.calendar.proofs.years.first_day.Lts as lts
+use Rattle.calendar.specs.declared.years.TheConstants.{FIRST_DAYS}
+use Rattle.calendar.proofs.Totals.{tabulates, entry}
 use Rattle.calendar.proofs.years.first_day.Goals as goal
 
--- the table as the first arm has it, which is the table of every arm
-module _ (c : lts.Start reads.Pre reads.Post) where
-  listed : (j : ℕ) → j < 349 → get_or (lts.m13 reads.Pre reads.Post c).1.1.1.0 j 0 ≡ first_day j
-  listed = entry years (lts.m13 reads.Pre reads.Post c).1.1.1.0 refl
+-- what the table has at an index that is the year
+read : (xs : List ℕ) → tabulates years xs ≡ true → length xs ≡ 349 → (j year : ℕ) → year < 349 → j ≡ year → get_or xs j 0 ≡ first_day year
+read xs t long j year h e = entry years xs t j (omega arith) ∙ ap first_day e
 
-  read : (j : ℕ) → j ≡ c.args.years → get_or (lts.m13 reads.Pre reads.Post c).1.1.1.0 j 0 ≡ first_day c.args.years
-  read j e = listed j (omega (arith, c.requires)) ∙ ap first_day e
+pub returns-in-0 : goal.returns-in-0
+returns-in-0 c = read FIRST_DAYS refl refl (c.args.years % 64) c.args.years c.requires (omega arith)
 
--- no arm before the last is taken, so the last has the years from 320 on
-last : (c : lts.At-match-rest reads.Pre reads.Post) → 320 + c.args.years % 64 ≡ c.args.years
-last c = let r = c.in_default.in_default-own.rest in omega (arith, c.requires, r.1, r.0.1, r.0.0.1, r.0.0.0.1, r.0.0.0.0.1)
+pub returns-in-1 : goal.returns-in-1
+returns-in-1 c = read FIRST_DAYS refl refl (64 + c.args.years % 64) c.args.years c.requires (omega arith)
+
+pub returns-in-2 : goal.returns-in-2
+returns-in-2 c = read FIRST_DAYS refl refl (128 + c.args.years % 64) c.args.years c.requires (omega arith)
+
+pub returns-in-3 : goal.returns-in-3
+returns-in-3 c = read FIRST_DAYS refl refl (192 + c.args.years % 64) c.args.years c.requires (omega arith)
+
+pub returns-in-4 : goal.returns-in-4
+returns-in-4 c = read FIRST_DAYS refl refl (256 + c.args.years % 64) c.args.years c.requires (omega arith)
+
+pub returns-in_default : goal.returns-in_default
+returns-in_default c = read FIRST_DAYS refl refl (320 + c.args.years % 64) c.args.years c.requires (omega arith)

@@ -1,9 +1,9 @@
 -- `has_29_february` meets its contract: the three years that have none, and else what a division by 4 leaves.
-use mathlib.Core.Bool.{Bool, true, false, not, ◌&&◌, ◌||◌}
+use mathlib.Core.Bool.{Bool, true, false, ◌&&◌}
 use mathlib.Core.Path.{◌≡◌, refl, ap, sym}
-use Prim.Native.Nat.{ℕ, ◌%◌}
+use Prim.Native.Nat.{◌%◌}
 use lib.Dec.{eqb}
-use borrow.Author.Tests.{eq-eqb, ne_eqb}
+use borrow.Author.Tests.{ne_eqb}
 use Rattle.calendar.specs.Counting.{leap}
 use Rattle.calendar.proofs.years.has_29_february.Goals as goal
 
