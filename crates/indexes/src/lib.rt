@@ -1,6 +1,7 @@
 // Indexes: the places of a table's records in the order of their names. Here an entry is read and a name is searched for by halving;
 // `building` makes an index.
 #![tactic(auto)]
+
 ghost use Rattle.std.specs.Prelude.{◌≡◌, ◌<◌, ◌≤◌};
 ghost use Rattle.indexes.specs.inner.Halving.{place_in, halvings, nearest, count_in, searched, match_in};
 

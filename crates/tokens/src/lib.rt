@@ -1,5 +1,6 @@
 // Tokens: an operator, a number, a name, a bracket, longest first, the spaces before each ignored.
 #![tactic(auto)]
+
 ghost use Rattle.std.specs.Prelude.{◌≡◌, [], ◌∷◌, ◌+◌, ◌<◌, ◌≤◌, ◌^◌, length, drop};
 ghost use Rattle.tokens.specs.declared.Token.TheVariants.{Operator as Operates};
 ghost use Rattle.records.specs.Records.{same_bytes};

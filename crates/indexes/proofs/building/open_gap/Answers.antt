@@ -3,18 +3,10 @@ use mathlib.Core.List.{List, [], ◌∷◌, ◌++◌, append_assoc}
 use mathlib.Core.Path.{◌≡◌, refl, ap, ap₂, sym, subst, ◌∙◌}
 use Prim.Native.Nat.{ℕ, suc, ◌+◌, ◌-◌, ◌<◌, ◌≤◌}
 use native.Mathlib.Omega.{arith}
-use borrow.Author.Rules.{rules}
 use lib.ListN.{length, get_or, take, drop, set, take-append-drop, length-set, get_or-append}
 use lib.Seq.{slice, slice_empty, slice-cons, set-append_left, take-set-lt, take-suc-set, get_or-take, length-take-le}
 use Rattle.indexes.specs.inner.Halving.{gap_in}
-use Rattle.indexes.proofs.building.open_gap.Statement.{statement}
-use Rattle.indexes.proofs.building.open_gap.Tie as tie
-
-abbrev invariant-loop : tie.invariant-loop
-invariant-loop out₀ from end at₀ out at = (from ≤ at) × (at ≤ end) × (end + 2 ≤ length out₀) × (length out ≡ length out₀) × (out ≡ gap_in at end out₀)
-
-abbrev decreases-loop : tie.decreases-loop
-decreases-loop out₀ from end at₀ out at = at - from
+use Rattle.indexes.proofs.building.open_gap.Goals as goal
 
 none : (out : List ℕ) (end : ℕ) → out ≡ gap_in end end out
 none out end = sym (ap (λ part. take (end + 2) out ++ (part ++ drop (end + 2) out)) (slice_empty end out) ∙ take-append-drop (end + 2) out)
@@ -57,55 +49,35 @@ went out₀ out at end some h room e =
     let one : at + 1 ≡ suc k + 1 = omega arith in
     ap₂ (λ l i. set l i (get_or out k 0)) there one ∙ up out₀ k end (omega arith) room (get_or out k 0) (ap (λ l. get_or l k 0) there ∙ byte_of out₀ k end (omega arith) room)
 
-loop-holds : tie.Need-loop-init invariant-loop decreases-loop
-loop-holds c = (omega arith, omega arith, omega arith, refl, none c.args.out.now c.args.end)
+pub loop-at-init : goal.loop-at-init
+loop-at-init c = (omega arith, omega arith, omega arith, refl, none c.args.out.now c.args.end)
 
-sub_out : tie.Need-overflow-sub-out invariant-loop decreases-loop
-sub_out c = omega arith
+pub overflow_sub-out : goal.overflow_sub-out
+overflow_sub-out c = omega arith
 
-slice-read-out : tie.Need-slice-read-out invariant-loop decreases-loop
-slice-read-out c = omega arith
+pub bounds-out-at : goal.bounds-out-at
+bounds-out-at c = omega arith
 
-add-out : tie.Need-overflow-add-out invariant-loop decreases-loop
-add-out c = omega arith
+pub overflow_add-out : goal.overflow_add-out
+overflow_add-out c = omega arith
 
-slice-write-out : tie.Need-slice-write-out invariant-loop decreases-loop
-slice-write-out c = omega arith
+pub bounds-out-at-in-loop-at : goal.bounds-out-at-in-loop-at
+bounds-out-at-in-loop-at c = omega arith
 
-sub_at : tie.Need-overflow-sub-at invariant-loop decreases-loop
-sub_at c = omega arith
+pub overflow_sub-at : goal.overflow_sub-at
+overflow_sub-at c = omega arith
 
-loop-less : tie.Need-loop-smaller invariant-loop decreases-loop
-loop-less c = omega arith
+pub loop-at-smaller : goal.loop-at-smaller
+loop-at-smaller c = omega arith
 
-loop-again : tie.Need-loop-preserved invariant-loop decreases-loop
-loop-again c =
+pub loop-at-preserved : goal.loop-at-preserved
+loop-at-preserved c =
     let h = c.before.before in
-    let i = h.loop.invariant in
-    (omega arith, omega arith, i.2, length-set h.loop.out (h.loop.at + 1) _ ∙ i.3, went _ _ _ _ (omega arith) i.1 i.2 i.4)
+    let i = h.loop-at.invariant in
+    (omega arith, omega arith, i.2, length-set h.loop-at.out (h.loop-at.at + 1) _ ∙ i.3, went _ _ _ _ (omega arith) i.1 i.2 i.4)
 
-same_length : tie.Need-same-length invariant-loop decreases-loop
-same_length c = omega arith
-
-returns : tie.Need-returns invariant-loop decreases-loop
+pub returns : goal.returns
 returns c =
-    let i = c.before.loop.invariant in
-    let there : c.before.loop.at ≡ c.before.before.args.from = omega arith in
-    i.4 ∙ ap (λ n. gap_in n c.before.before.args.end c.before.before.args.out.now) there
-
-pub open_gap_spec : {M : Type 1} → statement M
-open_gap_spec =
-    tie.close
-    (tie.spec
-    invariant-loop
-    decreases-loop
-    loop-holds
-    sub_out
-    slice-read-out
-    add-out
-    slice-write-out
-    sub_at
-    loop-less
-    loop-again
-    same_length
-    returns)
+    let i = c.loop-at.invariant in
+    let there : c.loop-at.at ≡ c.args.from = omega arith in
+    i.4 ∙ ap (λ n. gap_in n c.args.end c.args.out.now) there

@@ -4,13 +4,11 @@ use mathlib.Core.Path.{◌≡◌, refl, ap, ap₂, sym, ◌∙◌}
 use Prim.Native.Nat.{ℕ, suc, ◌+◌, ◌*◌, ◌-◌, ◌/◌, ◌%◌, ◌≤◌}
 use native.Mathlib.Numerals.{add-one}
 use native.Mathlib.Omega.{arith}
-use borrow.Author.Rules.{rules}
 use lib.ListN.{length, get_or, take, drop, set, length-append}
 use lib.Seq.{take-add, drop-cons, set_at, append_snoc, length-take-le, take_all, lt-length-set}
 use Rattle.records.specs.Records.{name_at}
 use Rattle.indexes.specs.inner.Halving.{slot_in, gap_in, with_entry}
-use Rattle.indexes.proofs.building.insert.Statement.{statement}
-use Rattle.indexes.proofs.building.insert.Tie as tie
+use Rattle.indexes.proofs.building.insert.Goals as goal
 
 -- two bytes set at the end of a part
 module _ (out behind : List ℕ) (k a b : ℕ) (h : k + 2 ≤ length out) where
@@ -37,40 +35,19 @@ module _ (out behind : List ℕ) (k a b : ℕ) (h : k + 2 ≤ length out) where
       ∙ set_at (front ++ (a ∷ [])) (get_or out (suc k) 0) behind b (k + 1) (length-append front (a ∷ []) ∙ ap (λ n. n + 1) front_long)
       ∙ append_snoc front a (b ∷ behind)
 
-slice-write-out-2 : tie.Need-slice-write-out-2
-slice-write-out-2 c =
-    lt-length-set c.before.before.open-gap.new.0 (2 * c.before.before.before.before.slot-in.result) _ (omega arith)
+pub bounds-out-at-2 : goal.bounds-out-at-2
+bounds-out-at-2 c =
+    lt-length-set c.open_gap.new.0 (2 * c.slot_in-slot.result) _ (omega arith)
 
-returns : tie.Need-returns
+pub returns : goal.returns
 unfolding with_entry
 returns c =
-    let gap = c.before.before.open-gap in
+    let gap = c.open_gap in
     let put = c.before.before.before.before in
-    let a = put.before.before.before.before.before.before.args in
-    let at : ℕ = 2 * put.slot-in.result in
+    let a = put.args in
+    let at : ℕ = 2 * put.slot_in-slot.result in
     let low : ℕ = a.place % 256 in
     let high : ℕ = a.place / 256 in
     ap (λ l. set (set l at low) (at + 1) high) gap.ensures
-    ∙ both_set a.out.now _ at low high (omega (arith, put.slot-in.ensures.1))
-    ∙ ap (λ slot. with_entry slot a.count a.place a.out.now) (put.slot-in.ensures.0 ∙ ap₂ (λ index name. slot_in a.table.now index a.count name) (take_all (length a.out.now - 0) a.out.now (omega arith)) put.before.name_at.ensures)
-
-pub insert_spec : {M : Type 1} → statement M
-insert_spec =
-    tie.close
-    (tie.spec
-    (λ c. search rules)
-    (λ c. search rules)
-    (λ c. search rules)
-    (λ c κs. search rules)
-    (λ c κs. search rules)
-    (λ c. search rules)
-    (λ c. search rules)
-    (λ c. search rules)
-    (λ c κs. search rules)
-    (λ c. search rules)
-    (λ c. search rules)
-    (λ c. search rules)
-    (λ c. search rules)
-    slice-write-out-2
-    (λ c. search rules)
-    returns)
+    ∙ both_set a.out.now _ at low high (omega (arith, put.slot_in-slot.ensures.1))
+    ∙ ap (λ slot. with_entry slot a.count a.place a.out.now) (put.slot_in-slot.ensures.0 ∙ ap₂ (λ index name. slot_in a.table.now index a.count name) (take_all (length a.out.now - 0) a.out.now (omega arith)) put.name_at.ensures)

@@ -4,14 +4,12 @@ use mathlib.Core.List.{List, [], ◌∷◌}
 use mathlib.Core.Path.{◌≡◌, sym}
 use Prim.Native.Nat.{ℕ}
 use native.Mathlib.Omega.{arith}
-use borrow.Author.Rules.{rules}
 use borrow.Author.Tests.{eq-eqb, ne_eqb}
 use lib.Dec.{eqb}
 use lib.ListN.{length, get_or}
 use Rattle.records.specs.Records.{same_bytes}
 use Rattle.tokens.proofs.Laws.{other_length}
-use Rattle.tokens.proofs.spells_two.Statement.{statement}
-use Rattle.tokens.proofs.spells_two.Tie as tie
+use Rattle.tokens.proofs.spells_two.Goals as goal
 
 two : (a b : ℕ) (word : List ℕ) → length word ≡ 2 → same_bytes (a ∷ b ∷ []) word ≡ (eqb a (get_or word 0 0) && eqb b (get_or word 1 0))
 two a b [] h = absurd (omega arith)
@@ -19,20 +17,16 @@ two a b (x ∷ []) h = absurd (omega arith)
 two a b (x ∷ y ∷ []) h = rw (and-true (eqb b y))
 two a b (x ∷ y ∷ z ∷ zs) h = absurd (omega arith)
 
-returns : tie.Need-returns
-returns c = sym (other_length (c.before.args.a ∷ c.before.args.b ∷ []) c.before.args.word.now c.if1.true)
+pub returns-then-word-ne2 : goal.returns-then-word-ne2
+returns-then-word-ne2 c = sym (other_length (c.args.a ∷ c.args.b ∷ []) c.args.word.now c.if-word-ne2.true)
 
-spelt : (c : tie.Else1) →
-    let a = c.before.args in
+spelt : (c : goal.Else-word-ne2) →
+    let a = c.args in
     same_bytes (a.a ∷ a.b ∷ []) a.word.now ≡ (eqb a.a (get_or a.word.now 0 0) && eqb a.b (get_or a.word.now 1 0))
-spelt c = two c.before.args.a c.before.args.b c.before.args.word.now c.if1.false
+spelt c = two c.args.a c.args.b c.args.word.now c.if-word-ne2.false
 
-returns-2 : tie.Need-returns-2
-returns-2 c = rw (spelt c.before.before.before, eq-eqb _ _ c.before.if2.true)
+pub returns-then-a-word : goal.returns-then-a-word
+returns-then-a-word c = rw (spelt c.before.before.before, eq-eqb _ _ c.if-a-word.true)
 
-returns-3 : tie.Need-returns-3
-returns-3 c = rw (spelt c.before.before, ne_eqb _ _ c.if2.false)
-
-pub spells_two_spec : {M : Type 1} → statement M
-spells_two_spec =
-    tie.close (tie.spec returns (λ c. search rules) (λ c. search rules) returns-2 returns-3)
+pub returns-else-a-word : goal.returns-else-a-word
+returns-else-a-word c = rw (spelt c.before.before, ne_eqb _ _ c.if-a-word.false)

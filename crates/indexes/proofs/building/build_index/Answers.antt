@@ -3,7 +3,6 @@ use mathlib.Core.List.{List, [], ◌++◌}
 use mathlib.Core.Path.{◌≡◌, refl, ap, sym, subst, ◌∙◌}
 use Prim.Native.Nat.{ℕ, ◌*◌, ◌-◌, ◌<◌, ◌≤◌}
 use native.Mathlib.Omega.{arith}
-use borrow.Author.Rules.{rules}
 use borrow.Author.Tests.{lt-ltb, le-ltb}
 use lib.ListN.{length, drop}
 use Rattle.variables.specs.Tables.{checked, records_of}
@@ -15,8 +14,7 @@ use Rattle.indexes.specs.declared.building.Built.{Built}
 use Rattle.indexes.specs.declared.building.Built.TheVariants.{Written, NoRoom}
 use Rattle.indexes.proofs.Searching.{bytes_long}
 use Rattle.indexes.proofs.Sorting.{all_long}
-use Rattle.indexes.proofs.building.build_index.Statement.{statement}
-use Rattle.indexes.proofs.building.build_index.Tie as tie
+use Rattle.indexes.proofs.building.build_index.Goals as goal
 
 -- an answer, and the buffer that goes with it
 settled :
@@ -39,11 +37,11 @@ module _ (table : List ℕ) {count : ℕ} (good : checked table ≡ Good count) 
   long = omega (arith, bytes_long (inserted_all (records_of table) []), all_long (records_of table) [], (laid table good).counted)
 
 -- where the table was checked
-module _ (c : tie.After-known-told2) where
-  abbrev checks : tie.After-check-table
+module _ (c : goal.In-Good) where
+  abbrev checks : goal.After-check_table
   checks = c.before.before.before
 
-  abbrev start : tie.Start
+  abbrev start : goal.Start
   start = checks.before.before.before
 
   abbrev table : List ℕ
@@ -52,40 +50,37 @@ module _ (c : tie.After-known-told2) where
   abbrev out : List ℕ
   out = start.args.out.now
 
-  good : checked start.args.table.now ≡ Good c.before.count.given.0.0
-  good = sym checks.check_table.ensures ∙ c.before.count.given.1
+  good : checked start.args.table.now ≡ Good c.in-Good.count
+  good = sym checks.check_table.ensures ∙ c.in-Good.is
 
-mul-need : tie.Need-overflow-mul-need
-mul-need c = omega (arith, (laid _ (good c)).few)
+pub overflow_mul-need : goal.overflow_mul-need
+overflow_mul-need c = omega (arith, (laid _ (good c)).few)
 
-returns : tie.Need-returns
-returns c = settled _ _ _ (no_room (table c.before) (good c.before) (out c.before) c.if1.true) refl
+pub returns-then-room-need : goal.returns-then-room-need
+returns-then-room-need c =
+    record {
+      answer = (settled _ _ _ (no_room (table c.before) (good c.before) (out c.before) c.if-room-need.true) refl).0;
+      buffer = (settled _ _ _ (no_room (table c.before) (good c.before) (out c.before) c.if-room-need.true) refl).1;
+    }
 
-lay-records-requires : tie.Need-lay-records-requires
-lay-records-requires c κs = (_, good c.before.before, c.before.if1.false)
+pub lay_records-requires : goal.lay_records-requires
+lay_records-requires c = (_, good c.before.before, c.if-room-need.false)
 
-returns-2 : tie.Need-returns-2
+pub returns-in-BadTable : goal.returns-in-BadTable
 unfolding built
-returns-2 c =
-    settled _ _ _ (ap (λ r. built_over r (length c.before.before.before.before.before.before.args.out.now)) (sym c.before.number.given.1 ∙ c.before.before.before.check_table.ensures)) refl
+returns-in-BadTable c =
+    record {
+      answer = (settled _ _ _ (ap (λ r. built_over r (length c.args.out.now)) (sym c.in-BadTable.is ∙ c.check_table.ensures)) refl).0;
+      buffer = (settled _ _ _ (ap (λ r. built_over r (length c.args.out.now)) (sym c.in-BadTable.is ∙ c.check_table.ensures)) refl).1;
+    }
 
-returns-3 : tie.Need-returns-3
-returns-3 c =
+pub returns-else-room-need : goal.returns-else-room-need
+returns-else-room-need c =
     let e = c.before.before.before.before in
     let k = e.before in
-    settled _ _ _ (written (table k) (good k) (out k) e.if1.false)
-    (c.before.before.lay-records.ensures ∙ ap (λ n. index_of (table k) ++ drop n (out k)) (long (table k) (good k)))
-
-pub build_index_spec : {M : Type 1} → statement M
-build_index_spec =
-    tie.close
-    (tie.spec
-    (λ c κs. search rules)
-    (λ c. search rules)
-    (λ c. search rules)
-    mul-need
-    returns
-    lay-records-requires
-    returns-2
-    (λ c. search rules)
-    returns-3)
+    record {
+      answer = (settled _ _ _ (written (table k) (good k) (out k) e.if-room-need.false)
+          (c.lay_records.ensures ∙ ap (λ n. index_of (table k) ++ drop n (out k)) (long (table k) (good k)))).0;
+      buffer = (settled _ _ _ (written (table k) (good k) (out k) e.if-room-need.false)
+          (c.lay_records.ensures ∙ ap (λ n. index_of (table k) ++ drop n (out k)) (long (table k) (good k)))).1;
+    }
