@@ -29,7 +29,7 @@ at_mem [] k d h = absurd (omega arith)
 at_mem (e ∷ es) zero d h = head refl
 at_mem (e ∷ es) (suc k) d h = tail (at_mem es k d (omega arith))
 
-pub mem_at : {es : List Entry} {e : Entry} (d : Entry) → Memᴰ e es → (k : ℕ) × (k < length es) × (get_or es k d ≡ e)
+pub mem_at : {e : Entry} {es : List Entry} (d : Entry) → Memᴰ e es → (k : ℕ) × (k < length es) × (get_or es k d ≡ e)
 mem_at d (head q) = (0, omega arith, sym q)
 mem_at d (tail m) = let r = mem_at d m in (suc r.0, omega (arith, r.1), r.2)
 

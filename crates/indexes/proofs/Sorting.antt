@@ -171,6 +171,7 @@ unlike (first b s) (head p) (head q) n = absurd (n (p ∙ sym q))
 unlike {f = f} (first {e = g} b s) (head p) (tail k) n = rw p (unequal g.name f.name (b f k))
 unlike {e = e} (first {e = g} b s) (tail m) (head q) n = rw q (differ g.name e.name (unequal g.name e.name (b e m)))
 unlike (first b s) (tail m) (tail k) n = unlike s m k n
+unlike nothing m k n = absurd (Memᴰ.not-nil m)
 
 -- the arrangement is the only one: records in a strict order, all of them among as many others that are in order, are those
 later : {f g : Entry} {gs : List Entry} → Memᴰ f (g ∷ gs) → (f ≡ g → ⊥) → Memᴰ f gs

@@ -7,7 +7,7 @@ use Prim.Native.Nat.{ℕ, zero, suc, ◌+◌, ◌-◌, ◌/◌, ◌^◌, ◌<◌
 use native.Mathlib.Omega.{arith}
 use borrow.Author.Tests.{lt-ltb, le-ltb}
 use Rattle.records.specs.Records.{name_at, comes_before}
-use Rattle.indexes.specs.inner.Halving.{halvings, name_in, nearest}
+use Rattle.indexes.specs.inner.Halving.{halvings, place_in, name_in, nearest}
 use Rattle.indexes.proofs.nearest.Goals as goal
 
 module _ (table index name : List ℕ) (first size : ℕ) where
@@ -34,17 +34,11 @@ module _ (table index name : List ℕ) (first size : ℕ) where
   upper zero h few e = absurd (omega arith)
   upper (suc more) h few e = (more, omega (arith, few), rw (lt-ltb 1 size h, e))
 
--- where the name was compared
-module _ (c : goal.After-comes_before) where
-  abbrev inside : goal.In-loop-size
-  inside = c.before.before.before
-
-  abbrev head : goal.At-loop-size
-  head = inside.before
-
-  told : {t : Bool} → c.comes_before.result ≡ t → later head.args.table.now head.args.index.now head.args.name.now head.loop-size.first head.loop-size.size ≡ t
-  told e =
-      ap (comes_before _) (sym (c.name_at.ensures ∙ ap (name_at _) c.place_at.ensures.0)) ∙ sym c.comes_before.ensures ∙ e
+-- what the comparison with the middle entry's name told
+told :
+    (table index name : List ℕ) (k : ℕ) {place : ℕ} {at : List ℕ} {b t : Bool} → place ≡ place_in index k → at ≡ name_at table place →
+    b ≡ comes_before name at → b ≡ t → comes_before name (name_in table index k) ≡ t
+told table index name k p q r e = ap (comes_before name) (sym (q ∙ ap (name_at table) p)) ∙ sym r ∙ e
 
 pub loop-size-init : goal.loop-size-init
 loop-size-init c = (omega arith, λ h. h, (8, omega arith, refl))
@@ -57,8 +51,8 @@ loop-size-smaller-then-comes_before c = omega arith
 
 pub loop-size-preserved-then-comes_before : goal.loop-size-preserved-then-comes_before
 loop-size-preserved-then-comes_before c =
-    let i = (head c.before).loop.inv in
-    let l = lower _ _ _ _ _ i.2.0 (omega arith) i.2.1 (told c.before c.if-comes_before.true) in
+    let i = c.loop-size.invariant in
+    let l = lower _ _ _ _ _ i.2.0 (omega arith) i.2.1 (told _ _ _ _ c.place_at.ensures.0 c.name_at.ensures c.comes_before.ensures c.if-comes_before.true) in
     (omega arith, λ h. omega arith, (l.0, l.1, i.2.2 ∙ l.2))
 
 pub loop-size-smaller : goal.loop-size-smaller
@@ -66,8 +60,8 @@ loop-size-smaller c = omega arith
 
 pub loop-size-preserved : goal.loop-size-preserved
 loop-size-preserved c =
-    let i = (head c.before).loop.inv in
-    let l = upper _ _ _ _ _ i.2.0 (omega arith) i.2.1 (told c.before c.if-comes_before.false) in
+    let i = c.loop-size.invariant in
+    let l = upper _ _ _ _ _ i.2.0 (omega arith) i.2.1 (told _ _ _ _ c.place_at.ensures.0 c.name_at.ensures c.comes_before.ensures c.if-comes_before.false) in
     (omega arith, λ h. omega arith, (l.0, l.1, i.2.2 ∙ l.2))
 
 pub overflow_sub-size : goal.overflow_sub-size

@@ -23,27 +23,25 @@ module _ (table index name : List ℕ) {count : ℕ} (so : count ≡ count_in in
   unfolding searched
   nothing h = rw (← so, le-ltb 0 count h)
 
--- where the nearest name was compared
-module _ (c : goal.After-same_name) where
-  abbrev counted : goal.After-count_of-count
-  counted = c.before.before.before.before.before
-
-  abbrev start : goal.Start
-  start = counted.before.before.before.before
-
-  told : {t : Bool} → c.same_name.result ≡ t → same_name (name_at start.args.table.now c.place_at-place.result) start.args.name.now ≡ t
-  told e = ap (λ a. same_name a start.args.name.now) (sym c.name_at.ensures) ∙ sym c.same_name.ensures ∙ e
-
-  found : {t : Bool} → c.same_name.result ≡ t → cond t (present (entry_at start.args.table.now c.place_at-place.result)) absent ≡ searched start.args.table.now start.args.index.now start.args.name.now
-  found e =
-      settled _ _ _ counted.count_of-count.ensures.0 c.if-count-gt0.true c.nearest.ensures.0
-      c.place_at-place.ensures.0 (told e)
+  -- the same from what the calls ensure
+  found :
+      {near place : ℕ} {at : List ℕ} {b t : Bool} → 0 < count → near ≡ nearest halvings table index name 0 count →
+      place ≡ place_in index near → at ≡ name_at table place → b ≡ same_name at name → b ≡ t →
+      cond t (present (entry_at table place)) absent ≡ searched table index name
+  found some e q n s r = settled some e q (ap (λ a. same_name a name) (sym n) ∙ sym s ∙ r)
 
 pub returns-then-same_name : goal.returns-then-same_name
-returns-then-same_name c = ap Record c.variable_at.ensures ∙ ap (match_in _) (found c.before.before c.if-same_name.true)
+returns-then-same_name c =
+    ap Record c.variable_at.ensures
+    ∙ ap (match_in _)
+    (found _ _ _ c.count_of-count.ensures.0 c.if-count-gt0.true c.nearest.ensures.0 c.place_at-place.ensures.0 c.name_at.ensures
+    c.same_name.ensures c.if-same_name.true)
 
 pub returns-else-same_name : goal.returns-else-same_name
-returns-else-same_name c = ap (match_in _) (found c.before c.if-same_name.false)
+returns-else-same_name c =
+    ap (match_in _)
+    (found _ _ _ c.count_of-count.ensures.0 c.if-count-gt0.true c.nearest.ensures.0 c.place_at-place.ensures.0 c.name_at.ensures
+    c.same_name.ensures c.if-same_name.false)
 
 pub returns-else-count-gt0 : goal.returns-else-count-gt0
 returns-else-count-gt0 c = ap (match_in _) (nothing _ _ _ c.count_of-count.ensures.0 c.if-count-gt0.false)

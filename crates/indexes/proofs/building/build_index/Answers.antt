@@ -36,51 +36,28 @@ module _ (table : List ℕ) {count : ℕ} (good : checked table ≡ Good count) 
   long : length (index_of table) ≡ 2 * count
   long = omega (arith, bytes_long (inserted_all (records_of table) []), all_long (records_of table) [], (laid table good).counted)
 
--- where the table was checked
-module _ (c : goal.In-Good) where
-  abbrev checks : goal.After-check_table
-  checks = c.before.before.before
-
-  abbrev start : goal.Start
-  start = checks.before.before.before
-
-  abbrev table : List ℕ
-  table = start.args.table.now
-
-  abbrev out : List ℕ
-  out = start.args.out.now
-
-  good : checked start.args.table.now ≡ Good c.in-Good.count
-  good = sym checks.check_table.ensures ∙ c.in-Good.is
-
 pub overflow_mul-need : goal.overflow_mul-need
-overflow_mul-need c = omega (arith, (laid _ (good c)).few)
+overflow_mul-need c = omega (arith, (laid _ (sym c.check_table.ensures ∙ c.in-Good.is)).few)
 
 pub returns-then-room-need : goal.returns-then-room-need
 returns-then-room-need c =
-    record {
-      answer = (settled _ _ _ (no_room (table c.before) (good c.before) (out c.before) c.if-room-need.true) refl).0;
-      buffer = (settled _ _ _ (no_room (table c.before) (good c.before) (out c.before) c.if-room-need.true) refl).1;
-    }
+    let good = sym c.check_table.ensures ∙ c.in-Good.is in
+    let all = settled c.args.table.now c.args.out.now _ (no_room _ good _ c.if-room-need.true) refl in
+    record { answer = all.0; buffer = all.1 }
 
 pub lay_records-requires : goal.lay_records-requires
-lay_records-requires c = (_, good c.before.before, c.if-room-need.false)
+lay_records-requires c = (_, sym c.check_table.ensures ∙ c.in-Good.is, c.if-room-need.false)
 
 pub returns-in-BadTable : goal.returns-in-BadTable
 unfolding built
 returns-in-BadTable c =
-    record {
-      answer = (settled _ _ _ (ap (λ r. built_over r (length c.args.out.now)) (sym c.in-BadTable.is ∙ c.check_table.ensures)) refl).0;
-      buffer = (settled _ _ _ (ap (λ r. built_over r (length c.args.out.now)) (sym c.in-BadTable.is ∙ c.check_table.ensures)) refl).1;
-    }
+    let all = settled c.args.table.now c.args.out.now _ (ap (λ r. built_over r (length c.args.out.now)) (sym c.in-BadTable.is ∙ c.check_table.ensures)) refl in
+    record { answer = all.0; buffer = all.1 }
 
 pub returns-else-room-need : goal.returns-else-room-need
 returns-else-room-need c =
-    let e = c.before.before.before.before in
-    let k = e.before in
-    record {
-      answer = (settled _ _ _ (written (table k) (good k) (out k) e.if-room-need.false)
-          (c.lay_records.ensures ∙ ap (λ n. index_of (table k) ++ drop n (out k)) (long (table k) (good k)))).0;
-      buffer = (settled _ _ _ (written (table k) (good k) (out k) e.if-room-need.false)
-          (c.lay_records.ensures ∙ ap (λ n. index_of (table k) ++ drop n (out k)) (long (table k) (good k)))).1;
-    }
+    let good = sym c.check_table.ensures ∙ c.in-Good.is in
+    let all =
+    settled c.args.table.now c.args.out.now _ (written _ good _ c.if-room-need.false)
+    (c.lay_records.ensures ∙ ap (λ n. index_of c.args.table.now ++ drop n c.args.out.now) (long _ good)) in
+    record { answer = all.0; buffer = all.1 }

@@ -37,17 +37,16 @@ module _ (out behind : List ℕ) (k a b : ℕ) (h : k + 2 ≤ length out) where
 
 pub bounds-out-at-2 : goal.bounds-out-at-2
 bounds-out-at-2 c =
-    lt-length-set c.open_gap.new.0 (2 * c.slot_in-slot.result) _ (omega arith)
+    lt-length-set c.open_gap.new.out (2 * c.slot_in-slot.result) _ (omega arith)
 
 pub returns : goal.returns
 unfolding with_entry
 returns c =
     let gap = c.open_gap in
-    let put = c.before.before.before.before in
-    let a = put.args in
-    let at : ℕ = 2 * put.slot_in-slot.result in
+    let a = c.args in
+    let at : ℕ = 2 * c.slot_in-slot.result in
     let low : ℕ = a.place % 256 in
     let high : ℕ = a.place / 256 in
     ap (λ l. set (set l at low) (at + 1) high) gap.ensures
-    ∙ both_set a.out.now _ at low high (omega (arith, put.slot_in-slot.ensures.1))
-    ∙ ap (λ slot. with_entry slot a.count a.place a.out.now) (put.slot_in-slot.ensures.0 ∙ ap₂ (λ index name. slot_in a.table.now index a.count name) (take_all (length a.out.now - 0) a.out.now (omega arith)) put.name_at.ensures)
+    ∙ both_set a.out.now _ at low high (omega (arith, c.slot_in-slot.ensures.1))
+    ∙ ap (λ slot. with_entry slot a.count a.place a.out.now) (c.slot_in-slot.ensures.0 ∙ ap₂ (λ index name. slot_in a.table.now index a.count name) (take_all (length a.out.now - 0) a.out.now (omega arith)) c.name_at.ensures)

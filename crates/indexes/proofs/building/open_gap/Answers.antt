@@ -72,9 +72,8 @@ loop-at-smaller c = omega arith
 
 pub loop-at-preserved : goal.loop-at-preserved
 loop-at-preserved c =
-    let h = c.before.before in
-    let i = h.loop-at.invariant in
-    (omega arith, omega arith, i.2, length-set h.loop-at.out (h.loop-at.at + 1) _ ∙ i.3, went _ _ _ _ (omega arith) i.1 i.2 i.4)
+    let i = c.loop-at.invariant in
+    (omega arith, omega arith, i.2, length-set c.loop-at.out (c.loop-at.at + 1) _ ∙ i.3, went _ _ _ _ (omega arith) i.1 i.2 i.4)
 
 pub returns : goal.returns
 returns c =

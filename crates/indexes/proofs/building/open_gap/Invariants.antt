@@ -9,7 +9,8 @@ use Rattle.indexes.specs.inner.Halving.{gap_in}
 use Rattle.indexes.proofs.building.open_gap.Given as goal
 
 abbrev pub invariant-loop-at : goal.invariant-loop-at
-invariant-loop-at l = (l.end ≤ l.at) × (l.at ≤ l.initial.out) × (l.initial.out + 2 ≤ length l.from) × (length l.out ≡ length l.from) × (l.out ≡ gap_in l.at l.initial.out l.from)
+invariant-loop-at l =
+    (l.from ≤ l.at) × (l.at ≤ l.end) × (l.end + 2 ≤ length l.initial.out) × (length l.out ≡ length l.initial.out) × (l.out ≡ gap_in l.at l.end l.initial.out)
 
 abbrev pub decreases-loop-at : goal.decreases-loop-at
-decreases-loop-at l = l.at - l.end
+decreases-loop-at l = l.at - l.from
