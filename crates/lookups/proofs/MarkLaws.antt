@@ -95,6 +95,7 @@ kept (e ∷ es) marks long low place m =
 pub marks_of :
     (es : List Entry) (marks : List ℕ) → length marks ≡ 2048 → Low es → {e : Entry} → Memᴰ e es → marked (with_marks marks es) e.place ≡ true
 unfolding with_marks
+marks_of [] marks long low m = elim m [ ]
 marks_of (f ∷ es) marks long low (head q) =
     let one : f.place ≤ 65535 = low f (head refl) in
     rw q

@@ -24,6 +24,7 @@ use Rattle.lookups.specs.inner.Fitting.{shaped_from, shaped_in}
 
 -- a record of a chain starts before the chain's end
 pub earlier : {table : List ℕ} {stop place : ℕ} {es : List Entry} {e : Entry} → Chain table stop place es → Memᴰ e es → e.place < stop
+earlier (end _) m = elim m [ ]
 earlier {table} {place = place} (next r) (head q) = omega (arith, ap (λ x. x.place) q, place_of table place, within r)
 earlier (next r) (tail m) = earlier r m
 
@@ -103,7 +104,7 @@ shapes_met zero count (next r) s h = absurd (omega arith)
 shapes_met {table} {place} (suc left) count (next {es = es} r) s h =
     let here : shaped table place ≡ true = rw place_of at (s (entry_at table place) (head refl)) in
     rw (lt-leb (length table) place (omega (arith, within r)), here)
-    (shapes_met left (suc count) r (λ e m. s e (tail m)) (omega arith) ∙ omega arith)
+    (shapes_met {place = next_place table place} left (suc count) r (λ e m. s e (tail m)) (omega arith) ∙ omega arith)
 
 sounds_met :
     {table : List ℕ} {place : ℕ} {es : List Entry} (left count : ℕ) → Chain table (length table) place es →
@@ -115,7 +116,7 @@ sounds_met zero count (next r) s h = absurd (omega arith)
 sounds_met {table} {place} (suc left) count (next {es = es} r) s h =
     let here : sound table place ≡ true = rw place_of at (s (entry_at table place) (head refl)) in
     rw (lt-leb (length table) place (omega (arith, within r)), here)
-    (sounds_met left (suc count) r (λ e m. s e (tail m)) (omega arith) ∙ ap Good (omega arith))
+    (sounds_met {place = next_place table place} left (suc count) r (λ e m. s e (tail m)) (omega arith) ∙ ap Good (omega arith))
 
 module _ {table : List ℕ} {n : ℕ} where
   -- the records of a good table have their shapes

@@ -1,6 +1,7 @@
 // Look-ups: what a name means in two tables, with or without an index beside the house's. The judgement of a table with its index is in
 // `fitting`, the marks of places that it goes by in `marks`.
 #![tactic(auto)]
+
 ghost use Rattle.std.specs.Prelude.{◌≡◌};
 ghost use Rattle.variables.specs.Judgements.{judged};
 ghost use Rattle.variables.specs.inner.Keys.{laid_over, judged_lines, match_as};

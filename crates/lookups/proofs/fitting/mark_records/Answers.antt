@@ -6,23 +6,13 @@ use mathlib.Core.Path.{◌≡◌, refl, sym, ◌∙◌}
 use Prim.Native.Nat.{ℕ, zero, suc, ◌+◌, ◌-◌, ◌<◌, ◌≤◌}
 use native.Mathlib.Numerals.{add-one}
 use native.Mathlib.Omega.{arith}
-use borrow.Author.Rules.{rules}
 use borrow.Author.Tests.{le-leb, lt-leb, lt-ltb}
 use lib.ListN.{length}
 use Rattle.records.specs.Records.{next_place, shaped, entry_at}
 use Rattle.variables.specs.Tables.{most, entries, records_of}
 use Rattle.variables.proofs.Chain.{none_left}
 use Rattle.lookups.specs.inner.Fitting.{with_mark, with_marks, shaped_from, shaped_in}
-use Rattle.lookups.proofs.fitting.mark_records.Statement.{statement}
-use Rattle.lookups.proofs.fitting.mark_records.Tie as tie
-
-abbrev invariant-loop : tie.invariant-loop
-invariant-loop table marks₀ count₀ place₀ marks count place =
-    (count ≤ most) × (shaped_in table ≡ shaped_from (most - count) count table place)
-    × (with_marks marks₀ (records_of table) ≡ with_marks marks (entries (most - count) table (length table) place))
-
-abbrev decreases-loop : tie.decreases-loop
-decreases-loop table marks₀ count₀ place₀ marks count place = length table - place
+use Rattle.lookups.proofs.fitting.mark_records.Goals as goal
 
 module _ (table : List ℕ) (count place : ℕ) where
   abbrev rest : ℕ
@@ -65,56 +55,38 @@ module _ (table : List ℕ) (count place : ℕ) where
       unfolding entries with_marks entry_at
       marks_more marks m q = rw (left, lt-ltb place (length table) h, m, q)
 
-loop-holds : tie.Need-loop-init invariant-loop decreases-loop
-loop-holds c = (omega arith, refl, refl)
+pub loop-place-init : goal.loop-place-init
+loop-place-init c = (omega arith, refl, refl)
 
-returns : tie.Need-returns invariant-loop decreases-loop
-returns c =
+pub returns-then-count-eq-MOST_RECORDS : goal.returns-then-count-eq-MOST_RECORDS
+returns-then-count-eq-MOST_RECORDS c =
     let t = c.before in
-    let i = t.before.loop.invariant in
-    (full _ _ _ t.loop-test.true c.if1.true ∙ sym i.1, λ h. absurd (omega arith))
+    let i = t.loop-place.invariant in
+    (full _ _ _ t.loop-place-test.true c.if-count-eq-MOST_RECORDS.true ∙ sym i.1, λ h. absurd (omega arith))
 
-loop-again : tie.Need-loop-preserved invariant-loop decreases-loop
-loop-again c =
+pub loop-place-preserved : goal.loop-place-preserved
+loop-place-preserved c =
     let w = c.before.before.before in
     let e = w.before.before in
     let t = e.before in
-    let i = t.before.loop.invariant in
-    let shaped-here = sym w.before.is_shaped.ensures ∙ w.if2.true in
-    let on = c.next_place.ensures in (
+    let i = t.loop-place.invariant in
+    let shaped-here = sym w.is_shaped.ensures ∙ w.if-is_shaped.true in
+    let on = c.next_place-place.ensures in (
       omega arith,
-      i.1 ∙ more _ _ _ t.loop-test.true i.0 e.if1.false shaped-here on,
-      i.2 ∙ marks_more _ _ _ t.loop-test.true i.0 e.if1.false _ c.before.mark.ensures on,
+      i.1 ∙ more _ _ _ t.loop-place-test.true i.0 e.if-count-eq-MOST_RECORDS.false shaped-here on,
+      i.2 ∙ marks_more _ _ _ t.loop-place-test.true i.0 e.if-count-eq-MOST_RECORDS.false _ c.mark.ensures on,
     )
 
-returns-2 : tie.Need-returns-2 invariant-loop decreases-loop
-returns-2 c =
+pub returns-else-is_shaped : goal.returns-else-is_shaped
+returns-else-is_shaped c =
     let s = c.before in
     let e = s.before in
     let t = e.before in
-    let i = t.before.loop.invariant in
-    let bad-here = sym s.is_shaped.ensures ∙ c.if2.false in
-    (bad _ _ _ t.loop-test.true i.0 e.if1.false bad-here ∙ sym i.1, λ h. absurd (omega arith))
+    let i = t.loop-place.invariant in
+    let bad-here = sym s.is_shaped.ensures ∙ c.if-is_shaped.false in
+    (bad _ _ _ t.loop-place-test.true i.0 e.if-count-eq-MOST_RECORDS.false bad-here ∙ sym i.1, λ h. absurd (omega arith))
 
-returns-3 : tie.Need-returns-3 invariant-loop decreases-loop
-returns-3 c =
-    let i = c.before.loop.invariant in
-    (at_end _ _ _ c.loop-test.false ∙ sym i.1, λ h. marks_end _ _ _ c.loop-test.false _ ∙ sym i.2)
-
-pub mark_records_spec : {M : Type 1} → statement M
-mark_records_spec =
-    tie.close
-    (tie.spec
-    invariant-loop
-    decreases-loop
-    loop-holds
-    returns
-    (λ c. search rules)
-    (λ c κs. search rules)
-    (λ c κs. search rules)
-    (λ c κs. search rules)
-    (λ c. search rules)
-    (λ c. search rules)
-    loop-again
-    returns-2
-    returns-3)
+pub returns : goal.returns
+returns c =
+    let i = c.loop-place.invariant in
+    (at_end _ _ _ c.loop-place-test.false ∙ sym i.1, λ h. marks_end _ _ _ c.loop-place-test.false _ ∙ sym i.2)
