@@ -1,5 +1,6 @@
 // References: what a reference's content stands for, a number or a variable of the tables.
 #![tactic(auto)]
+
 ghost use Rattle.std.specs.Prelude.{◌≡◌};
 ghost use Rattle.variables.specs.inner.Keys.{match_as};
 ghost use Rattle.lookups.specs.inner.Through.{sought_through};

@@ -3,7 +3,6 @@ use mathlib.Core.List.{List}
 use mathlib.Core.Path.{◌≡◌, refl, ap, sym, ◌∙◌}
 use Prim.Native.Nat.{ℕ, ◌≤◌, ◌<◌}
 use native.Mathlib.Omega.{arith}
-use borrow.Author.Rules.{rules}
 use Rattle.paper.proofs.Choice.{below, not_below, other}
 use Rattle.variables.specs.inner.Keys.{match_as}
 use Rattle.lookups.specs.inner.Through.{sought_through}
@@ -11,8 +10,7 @@ use Rattle.references.specs.References.{matched_as, referred_by}
 use Rattle.references.specs.declared.Referred.{Referred}
 use Rattle.references.specs.declared.Referred.TheVariants.{Number}
 use Rattle.references.specs.inner.Contents.{told_by, Tells}
-use Rattle.references.proofs.resolve.Statement.{statement}
-use Rattle.references.proofs.resolve.Tie as tie
+use Rattle.references.proofs.resolve.Goals as goal
 
 module _ (name farm house keys index : List ℕ) (told : ℕ) (tells : Tells name told) where
   abbrev named : Referred
@@ -31,29 +29,16 @@ module _ (name farm house keys index : List ℕ) (told : ℕ) (tells : Tells nam
   by_name : 255 < told → (told ≡ 256 → ⊥) → (told ≡ 257 → ⊥) → named ≡ referred_by farm house keys index name
   by_name high a b = not_below told 256 _ _ (omega arith) (other told 256 _ _ a (other told 257 _ _ b refl)) ∙ told_is
 
-returns : tie.Need-returns
-returns c = code _ _ _ _ _ _ c.before.content-of.ensures c.if1.true
+pub returns-then-told-le255 : goal.returns-then-told-le255
+returns-then-told-le255 c = code _ _ _ _ _ _ c.content_of-told.ensures c.if-told-le255.true
 
-returns-2 : tie.Need-returns-2
-returns-2 c = number _ _ _ _ _ _ c.before.before.content-of.ensures 256 c.if2.true
+pub returns-then-told-eq-OVER_255 : goal.returns-then-told-eq-OVER_255
+returns-then-told-eq-OVER_255 c = number _ _ _ _ _ _ c.content_of-told.ensures 256 c.if-told-eq-OVER_255.true
 
-returns-3 : tie.Need-returns-3
-returns-3 c = number _ _ _ _ _ _ c.before.before.before.content-of.ensures 257 c.if3.true
+pub returns-then-told-eq-BIG : goal.returns-then-told-eq-BIG
+returns-then-told-eq-BIG c = number _ _ _ _ _ _ c.content_of-told.ensures 257 c.if-told-eq-BIG.true
 
-returns-4 : tie.Need-returns-4
-returns-4 c =
-    let l = c.before in
-    c.as-name.ensures
-    ∙ by_name _ _ _ _ _ _ l.before.before.before.content-of.ensures (omega (arith, l.before.before.if1.false)) l.before.if2.false l.if3.false
-
-pub resolve_spec : {M : Type 1} → statement M
-resolve_spec =
-    tie.close
-    (tie.spec
-    (λ c κs. search rules)
-    (λ c. search rules)
-    returns
-    returns-2
-    returns-3
-    (λ c κs. search rules)
-    returns-4)
+pub returns : goal.returns
+returns c =
+    c.as_name.ensures
+    ∙ by_name _ _ _ _ _ _ c.content_of-told.ensures (omega arith) c.if-told-eq-OVER_255.false c.if-told-eq-BIG.false
