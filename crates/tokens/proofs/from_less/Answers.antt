@@ -14,11 +14,9 @@ returns-then-c-eq61 c = other _ _ _ _ c.if-c-eq62.false (same _ _ _ _ c.if-c-eq6
 pub returns-then-c-eq60 : goal.returns-then-c-eq60
 unfolding from_less
 returns-then-c-eq60 c =
-    let second = c.before.before in
-    other _ _ _ _ second.if-c-eq62.false (other _ _ _ _ second.if-c-eq61.false (same _ _ _ _ c.if-c-eq60.true c.operator_of-then-c-eq60.ensures))
+    other _ _ _ _ c.if-c-eq62.false (other _ _ _ _ c.if-c-eq61.false (same _ _ _ _ c.if-c-eq60.true c.operator_of-then-c-eq60.ensures))
 
 pub returns : goal.returns
 unfolding from_less
 returns c =
-    let second = c.before.before in
-    other _ _ _ _ second.if-c-eq62.false (other _ _ _ _ second.if-c-eq61.false (other _ _ _ _ c.if-c-eq60.false c.operator_of-2.ensures))
+    other _ _ _ _ c.if-c-eq62.false (other _ _ _ _ c.if-c-eq61.false (other _ _ _ _ c.if-c-eq60.false c.operator_of-2.ensures))

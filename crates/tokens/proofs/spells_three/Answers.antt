@@ -23,17 +23,11 @@ three a b c (x ∷ y ∷ z ∷ w ∷ ws) h = absurd (omega arith)
 pub returns-then-word-ne3 : goal.returns-then-word-ne3
 returns-then-word-ne3 c = sym (other_length (c.args.a ∷ c.args.b ∷ c.args.c ∷ []) c.args.word.now c.if-word-ne3.true)
 
-spelt : (c : goal.Else-word-ne3) →
-    let a = c.args in
-    same_bytes (a.a ∷ a.b ∷ a.c ∷ []) a.word.now ≡
-    (eqb a.a (get_or a.word.now 0 0) && (eqb a.b (get_or a.word.now 1 0) && eqb a.c (get_or a.word.now 2 0)))
-spelt c = three c.args.a c.args.b c.args.c c.args.word.now c.if-word-ne3.false
-
 pub returns-then-b-word : goal.returns-then-b-word
-returns-then-b-word c = rw (spelt c.before.before.before.before.before, eq-eqb _ _ c.if-a-word.true, eq-eqb _ _ c.if-b-word.true)
+returns-then-b-word c = rw (three _ _ _ _ c.if-word-ne3.false, eq-eqb _ _ c.if-a-word.true, eq-eqb _ _ c.if-b-word.true)
 
 pub returns-else-b-word : goal.returns-else-b-word
-returns-else-b-word c = rw (spelt c.before.before.before.before, eq-eqb _ _ c.if-a-word.true, ne_eqb _ _ c.if-b-word.false)
+returns-else-b-word c = rw (three _ _ _ _ c.if-word-ne3.false, eq-eqb _ _ c.if-a-word.true, ne_eqb _ _ c.if-b-word.false)
 
 pub returns-else-a-word : goal.returns-else-a-word
-returns-else-a-word c = rw (spelt c.before.before, ne_eqb _ _ c.if-a-word.false)
+returns-else-a-word c = rw (three _ _ _ _ c.if-word-ne3.false, ne_eqb _ _ c.if-a-word.false)

@@ -20,13 +20,8 @@ two a b (x ∷ y ∷ z ∷ zs) h = absurd (omega arith)
 pub returns-then-word-ne2 : goal.returns-then-word-ne2
 returns-then-word-ne2 c = sym (other_length (c.args.a ∷ c.args.b ∷ []) c.args.word.now c.if-word-ne2.true)
 
-spelt : (c : goal.Else-word-ne2) →
-    let a = c.args in
-    same_bytes (a.a ∷ a.b ∷ []) a.word.now ≡ (eqb a.a (get_or a.word.now 0 0) && eqb a.b (get_or a.word.now 1 0))
-spelt c = two c.args.a c.args.b c.args.word.now c.if-word-ne2.false
-
 pub returns-then-a-word : goal.returns-then-a-word
-returns-then-a-word c = rw (spelt c.before.before.before, eq-eqb _ _ c.if-a-word.true)
+returns-then-a-word c = rw (two _ _ _ c.if-word-ne2.false, eq-eqb _ _ c.if-a-word.true)
 
 pub returns-else-a-word : goal.returns-else-a-word
-returns-else-a-word c = rw (spelt c.before.before, ne_eqb _ _ c.if-a-word.false)
+returns-else-a-word c = rw (two _ _ _ c.if-word-ne2.false, ne_eqb _ _ c.if-a-word.false)

@@ -11,52 +11,38 @@ returns-then-spells_three c = hit _ _ _ (sym c.spells_three.ensures ∙ c.if-spe
 pub returns-then-spells_three-2 : goal.returns-then-spells_three-2
 unfolding word_token
 returns-then-spells_three-2 c =
-    let no-mod = c.before.before in
-    skip _ _ _ (sym no-mod.spells_three.ensures ∙ no-mod.if-spells_three.false)
+    skip _ _ _ (sym c.spells_three.ensures ∙ c.if-spells_three.false)
     (hit _ _ _ (sym c.spells_three-2.ensures ∙ c.if-spells_three-2.true) refl)
 
 pub returns-then-spells_two : goal.returns-then-spells_two
 unfolding word_token
 returns-then-spells_two c =
-    let no-and = c.before.before in
-    let no-mod = no-and.before.before in
-    skip _ _ _ (sym no-mod.spells_three.ensures ∙ no-mod.if-spells_three.false)
-    (skip _ _ _ (sym no-and.spells_three-2.ensures ∙ no-and.if-spells_three-2.false)
+    skip _ _ _ (sym c.spells_three.ensures ∙ c.if-spells_three.false)
+    (skip _ _ _ (sym c.spells_three-2.ensures ∙ c.if-spells_three-2.false)
     (hit _ _ _ (sym c.spells_two.ensures ∙ c.if-spells_two.true) refl))
 
 pub returns-then-spells_three-3 : goal.returns-then-spells_three-3
 unfolding word_token
 returns-then-spells_three-3 c =
-    let no_or = c.before.before in
-    let no-and = no_or.before.before in
-    let no-mod = no-and.before.before in
-    skip _ _ _ (sym no-mod.spells_three.ensures ∙ no-mod.if-spells_three.false)
-    (skip _ _ _ (sym no-and.spells_three-2.ensures ∙ no-and.if-spells_three-2.false)
-    (skip _ _ _ (sym no_or.spells_two.ensures ∙ no_or.if-spells_two.false)
+    skip _ _ _ (sym c.spells_three.ensures ∙ c.if-spells_three.false)
+    (skip _ _ _ (sym c.spells_three-2.ensures ∙ c.if-spells_three-2.false)
+    (skip _ _ _ (sym c.spells_two.ensures ∙ c.if-spells_two.false)
     (hit _ _ _ (sym c.spells_three-3.ensures ∙ c.if-spells_three-3.true) refl)))
 
 pub returns-then-spells_three-4 : goal.returns-then-spells_three-4
 unfolding word_token
 returns-then-spells_three-4 c =
-    let no-eor = c.before.before in
-    let no_or = no-eor.before.before in
-    let no-and = no_or.before.before in
-    let no-mod = no-and.before.before in
-    skip _ _ _ (sym no-mod.spells_three.ensures ∙ no-mod.if-spells_three.false)
-    (skip _ _ _ (sym no-and.spells_three-2.ensures ∙ no-and.if-spells_three-2.false)
-    (skip _ _ _ (sym no_or.spells_two.ensures ∙ no_or.if-spells_two.false)
-    (skip _ _ _ (sym no-eor.spells_three-3.ensures ∙ no-eor.if-spells_three-3.false)
+    skip _ _ _ (sym c.spells_three.ensures ∙ c.if-spells_three.false)
+    (skip _ _ _ (sym c.spells_three-2.ensures ∙ c.if-spells_three-2.false)
+    (skip _ _ _ (sym c.spells_two.ensures ∙ c.if-spells_two.false)
+    (skip _ _ _ (sym c.spells_three-3.ensures ∙ c.if-spells_three-3.false)
     (hit _ _ _ (sym c.spells_three-4.ensures ∙ c.if-spells_three-4.true) refl))))
 
 pub returns : goal.returns
 unfolding word_token
 returns c =
-    let no-eor = c.before.before in
-    let no_or = no-eor.before.before in
-    let no-and = no_or.before.before in
-    let no-mod = no-and.before.before in
-    skip _ _ _ (sym no-mod.spells_three.ensures ∙ no-mod.if-spells_three.false)
-    (skip _ _ _ (sym no-and.spells_three-2.ensures ∙ no-and.if-spells_three-2.false)
-    (skip _ _ _ (sym no_or.spells_two.ensures ∙ no_or.if-spells_two.false)
-    (skip _ _ _ (sym no-eor.spells_three-3.ensures ∙ no-eor.if-spells_three-3.false)
+    skip _ _ _ (sym c.spells_three.ensures ∙ c.if-spells_three.false)
+    (skip _ _ _ (sym c.spells_three-2.ensures ∙ c.if-spells_three-2.false)
+    (skip _ _ _ (sym c.spells_two.ensures ∙ c.if-spells_two.false)
+    (skip _ _ _ (sym c.spells_three-3.ensures ∙ c.if-spells_three-3.false)
     (skip _ _ _ (sym c.spells_three-4.ensures ∙ c.if-spells_three-4.false) refl))))
