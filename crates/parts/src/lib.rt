@@ -1,6 +1,7 @@
 // Parts of an expression, read and evaluated in one pass: a value; a refusal of the evaluation, which waits until the syntax is known to
 // be good; or a refusal of the syntax.
 #![tactic(auto)]
+
 ghost use Rattle.std.specs.Prelude.{◌≡◌, ◌&&◌, eqb};
 ghost use Rattle.paper.specs.declared.faults.Fault.TheVariants as Fault;
 ghost use Rattle.arithmetic.specs.Operators.{divides};

@@ -6,31 +6,17 @@ use Rattle.arithmetic.specs.Values.{unary_value}
 use Rattle.arithmetic.specs.declared.operators.Operator.{Operator}
 use Rattle.parts.specs.declared.Part.{Part}
 use Rattle.parts.specs.declared.Part.TheVariants.{Value}
-use borrow.Author.Rules.{rules}
-use Rattle.parts.proofs.covered.Statement.{statement}
-use Rattle.parts.proofs.covered.Tie as tie
+use Rattle.parts.proofs.covered.Goals as goal
 
 covered_value : (operator : Operator) (part : Part) (v left next r : ℕ) → part ≡ Value v left next → r ≡ unary_value operator v
     → Value r left next ≡ covered_part operator part
 covered_value operator part v left next r e h = ap (λ x. Value x left next) h ∙ ap (covered_part operator) (sym e)
 
-returns : tie.Need-returns
-returns c = covered_value _ _ _ _ _ _ c.before.before.part.given.1 c.unary.ensures
+pub returns-in-Value : goal.returns-in-Value
+returns-in-Value c = covered_value _ _ _ _ _ _ c.in-Value.is c.unary.ensures
 
-returns-2 : tie.Need-returns-2
-returns-2 c = ap (covered_part _) (sym c.before.part2.given.1)
+pub returns-in-Refused : goal.returns-in-Refused
+returns-in-Refused c = ap (covered_part _) (sym c.in-Refused.is)
 
-returns-3 : tie.Need-returns-3
-returns-3 c = ap (covered_part _) (sym c.before.part3.given.1)
-
-pub covered_spec : {M : Type 1} → statement M
-covered_spec =
-    tie.close
-    (tie.spec
-    (λ c. search rules)
-    (λ c κs. search rules)
-    (λ c. search rules)
-    (λ c. search rules)
-    returns
-    returns-2
-    returns-3)
+pub returns-in-Faulty : goal.returns-in-Faulty
+returns-in-Faulty c = ap (covered_part _) (sym c.in-Faulty.is)

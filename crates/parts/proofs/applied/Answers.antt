@@ -10,9 +10,7 @@ use Rattle.arithmetic.specs.Values.{binary_value}
 use Rattle.parts.specs.inner.Steps.{applied_part}
 use Rattle.arithmetic.specs.declared.operators.Operator.{Operator}
 use Rattle.parts.specs.declared.Part.TheVariants.{Value, Refused}
-use borrow.Author.Rules.{rules}
-use Rattle.parts.proofs.applied.Statement.{statement}
-use Rattle.parts.proofs.applied.Tie as tie
+use Rattle.parts.proofs.applied.Goals as goal
 
 zero_part : (operator : Operator) (place lhs rhs left next : ℕ) → (divides operator && eqb rhs 0) ≡ true
     → Refused zero_divisor place next ≡ applied_part operator place lhs rhs left next
@@ -24,11 +22,8 @@ value_part : (operator : Operator) (place lhs rhs left next v : ℕ) → (divide
 unfolding applied_part
 value_part operator place lhs rhs left next v t h = skip (divides operator && eqb rhs 0) _ _ t (ap (λ x. Value x left next) h)
 
-returns : tie.Need-returns
-returns c = zero_part _ _ _ _ _ _ (sym c.before.divides-by-zero.ensures ∙ c.if1.true)
+pub returns-then-divides_by_zero : goal.returns-then-divides_by_zero
+returns-then-divides_by_zero c = zero_part _ _ _ _ _ _ (sym c.divides_by_zero.ensures ∙ c.if-divides_by_zero.true)
 
-returns-2 : tie.Need-returns-2
-returns-2 c = value_part _ _ _ _ _ _ _ (sym c.before.before.divides-by-zero.ensures ∙ c.before.if1.false) c.binary.ensures
-
-pub applied_spec : {M : Type 1} → statement M
-applied_spec = tie.close (tie.spec (λ c κs. search rules) returns (λ c κs. search rules) returns-2)
+pub returns : goal.returns
+returns c = value_part _ _ _ _ _ _ _ (sym c.divides_by_zero.ensures ∙ c.if-divides_by_zero.false) c.binary.ensures
