@@ -1,5 +1,6 @@
 // Leaves of an expression: a number, and a name that is looked up in the tables.
 #![tactic(auto)]
+
 ghost use Rattle.std.specs.Prelude.{◌≡◌};
 ghost use Rattle.variables.specs.inner.Keys.{sought_by, match_as};
 ghost use Rattle.parts.specs.declared.Part.TheVariants as Part;
