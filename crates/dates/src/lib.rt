@@ -1,5 +1,6 @@
 // Dates of the diaries: a five-byte time as a string, by a format.
 #![tactic(auto)]
+
 ghost use Rattle.std.specs.Prelude.{true, ◌≡◌, ◌+◌, ◌≤◌, length, take};
 ghost use Rattle.paper.specs.Refusals.{longest};
 ghost use Rattle.paper.specs.Layings.{laying, laid_in, converted_by};

@@ -6,13 +6,11 @@ use mathlib.Core.Path.{◌≡◌, ap}
 use Prim.Native.Nat.{ℕ, ◌≤◌, ◌<◌}
 use native.Mathlib.Decide.{dec_lt}
 use native.Mathlib.Omega.{arith}
-use borrow.Author.Rules.{rules}
 use lib.ListN.{length, get_or, get_or-eq_default}
 use Rattle.paper.proofs.Runs.{run_none}
 use Rattle.runs.proofs.StretchLaws.{stretch_more, stretch_run}
 use Rattle.dates.specs.inner.Steps.{plain_byte}
-use Rattle.dates.proofs.plain.plain_end.Statement.{statement}
-use Rattle.dates.proofs.plain.plain_end.Tie as tie
+use Rattle.dates.proofs.plain.plain_end.Goals as goal
 
 -- the zero past the end is not plain
 past_end : (format : List ℕ) (at : ℕ) → length format ≤ at → plain_byte (get_or format at 0) ≡ false
@@ -26,34 +24,22 @@ ended format at stopped = go (dec_lt at (length format))
     go (yes h) = stopped h
     go (no h) = past_end format at (omega (arith, h))
 
-returns : tie.Need-returns
+pub returns-then-format-start : goal.returns-then-format-start
+returns-then-format-start c =
+    let a = c.args in
+    omega (arith, run_none plain_byte a.format.now a.start (past_end a.format.now a.start c.if-format-start.true))
+
+pub returns-then-at-near : goal.returns-then-at-near
+returns-then-at-near c =
+    let found = c.bytes_end-at in
+    let a = c.args in
+    stretch_run plain_byte a.format.now a.start found.result found.ensures.run (found.ensures.end.0 c.if-at-near.true)
+
+pub returns : goal.returns
 returns c =
-    let a = c.before.before.args in
-    omega (arith, run_none plain_byte a.format.now a.start (past_end a.format.now a.start c.if1.true))
-
-returns-2 : tie.Need-returns-2
-returns-2 c =
-    let found = c.before.bytes-end in
-    let a = c.before.before.before.before.before.args in
-    stretch_run plain_byte a.format.now a.start found.result found.ensures.0 (found.ensures.1.0 c.if2.true)
-
-returns-3 : tie.Need-returns-3
-returns-3 c =
-    let found = c.bytes-end2 in
-    let a = c.before.before.before.before.before.before.before.args in
+    let found = c.bytes_end in
+    let a = c.args in
     let more = stretch_more plain_byte a.format.now a.start in
     stretch_run plain_byte a.format.now a.start found.result
-    (more _ _ (more _ _ c.before.before.before.bytes-end.ensures.0 c.before.blocks-end.ensures) found.ensures.0)
-    (ended a.format.now found.result found.ensures.1.0)
-
-pub plain_end_spec : {M : Type 1} → statement M
-plain_end_spec =
-    tie.close
-    (tie.spec
-    returns
-    (λ c κs. search rules)
-    (λ c κs. search rules)
-    returns-2
-    (λ c κs. search rules)
-    (λ c κs. search rules)
-    returns-3)
+    (more _ _ (more _ _ c.bytes_end-at.ensures.run c.blocks_end-far.ensures) found.ensures.run)
+    (ended a.format.now found.result found.ensures.end.0)

@@ -6,7 +6,6 @@ use Prim.Native.Nat.{ℕ, ◌≤◌, ◌<◌}
 use native.Mathlib.Omega.{arith}
 use lib.Dec.{eqb}
 use lib.ListN.{length}
-use borrow.Author.Rules.{rules}
 use borrow.Author.Tests.{lt-ltb, le-ltb, eq-eqb, ne_eqb}
 use Rattle.paper.specs.Answers.{refusal, in_text}
 use Rattle.paper.specs.Layings.{converted_by}
@@ -18,8 +17,7 @@ use Rattle.calendar.specs.Moments.{moment_at}
 use Rattle.calendar.specs.declared.Moment.{Moment}
 use Rattle.dates.specs.Formats.{layout_of, string, fields_of}
 use Rattle.dates.specs.Conversions.{number, unfit, dated, answer_by, buffer_by, date_answer, date_buffer}
-use Rattle.dates.proofs.convert_date.Statement.{statement}
-use Rattle.dates.proofs.convert_date.Tie as tie
+use Rattle.dates.proofs.convert_date.Goals as goal
 
 -- the definition picks what the code's tests led to
 module _ (time format buf : List ℕ) (test : Bool) (e : unfit time format ≡ test) where
@@ -59,56 +57,55 @@ first_month : (time : ℕ) (m : Moment) → m ≡ moment_at time → 1 ≤ m.mon
 unfolding moment_at date_of
 first_month time m e = omega (arith, ap (λ m. m.month) e)
 
-returns : tie.Need-returns
-returns c =
-    let a = c.before.before.before.before.before.args in
-    refuses a.time.now a.format.now a.buf.now (too_long a.time.now a.format.now c.before.if1.true) _ c.refused.ensures
+pub returns-then-format-gt-LONGEST : goal.returns-then-format-gt-LONGEST
+returns-then-format-gt-LONGEST c =
+    let a = c.args in
+    let t = refuses a.time.now a.format.now a.buf.now (too_long a.time.now a.format.now c.if-format-gt-LONGEST.true) _ c.refused.ensures in
+    record {
+      answer = t.0;
+      buffer = t.1;
+    }
 
-returns-2 : tie.Need-returns-2
-returns-2 c =
-    let a = c.before.before.before.before.before.before.args in
-    refuses a.time.now a.format.now a.buf.now (other_time a.time.now a.format.now c.before.before.if1.false c.before.if2.true) _ c.refused2.ensures
+pub returns-then-time-ne5 : goal.returns-then-time-ne5
+returns-then-time-ne5 c =
+    let a = c.args in
+    let t =
+    refuses a.time.now a.format.now a.buf.now (other_time a.time.now a.format.now c.if-format-gt-LONGEST.false c.if-time-ne5.true) _
+    c.refused-then-time-ne5.ensures in
+    record {
+      answer = t.0;
+      buffer = t.1;
+    }
 
-moment-in-requires : tie.Need-moment-in-requires
-moment-in-requires c κs = c.if2.false
+pub moment_in-moment-requires : goal.moment_in-moment-requires
+moment_in-moment-requires c = c.if-time-ne5.false
 
-convert-near-requires : tie.Need-convert-near-requires
-convert-near-requires c κs = (c.before.if3.true, first_month _ _ c.before.before.moment-in.ensures)
+pub convert_near-requires : goal.convert_near-requires
+convert_near-requires c = (c.if-format-le-NEAR.true, first_month _ _ c.moment_in-moment.ensures)
 
-convert-far-requires : tie.Need-convert-far-requires
-convert-far-requires c κs = (c.before.before.before.before.if1.false, first_month _ _ c.before.before.moment-in.ensures)
+pub convert_far-requires : goal.convert_far-requires
+convert_far-requires c = (c.if-format-gt-LONGEST.false, first_month _ _ c.moment_in-moment.ensures)
 
--- both conversions of a moment are the time's
-converted : (c : tie.After-moment-in) (r : Converted) (after : List ℕ)
-    → let a = c.before.before.before.before.before.before.args in
-    let format = a.format.now in
-    let m = c.moment-in.result in
-    (r ≡ converted_by (answer_by (fields_of (layout_of format)) (string m (layout_of format)) (length a.buf.now)))
-    × (after ≡ buffer_by (fields_of (layout_of format)) (string m (layout_of format)) a.buf.now)
-    → (r ≡ converted_by (date_answer a.time.now format (length a.buf.now))) × (after ≡ date_buffer a.time.now format a.buf.now)
-converted c r after =
-    let a = c.before.before.before.before.before.before.args in
-    converts a.time.now a.format.now a.buf.now c.moment-in.result c.moment-in.ensures
-    (fit a.time.now a.format.now c.before.before.if1.false c.before.if2.false) r after
+pub returns-then-format-le-NEAR : goal.returns-then-format-le-NEAR
+returns-then-format-le-NEAR c =
+    let a = c.args in
+    let near = c.convert_near.ensures in
+    let t =
+    converts a.time.now a.format.now a.buf.now c.moment_in-moment.result c.moment_in-moment.ensures
+    (fit a.time.now a.format.now c.if-format-gt-LONGEST.false c.if-time-ne5.false) _ _ (near.answer, near.buffer) in
+    record {
+      answer = t.0;
+      buffer = t.1;
+    }
 
-returns-3 : tie.Need-returns-3
-returns-3 c = converted c.before.before.before.before.before _ _ c.before.before.convert-near.ensures
-
-returns-4 : tie.Need-returns-4
-returns-4 c = converted c.before.before.before.before.before _ _ c.before.before.convert-far.ensures
-
-pub convert_date_spec : {M : Type 1} → statement M
-convert_date_spec =
-    tie.close
-    (tie.spec
-    (λ c κs. search rules)
-    returns
-    (λ c κs. search rules)
-    returns-2
-    moment-in-requires
-    convert-near-requires
-    convert-far-requires
-    (λ c. search rules)
-    returns-3
-    (λ c. search rules)
-    returns-4)
+pub returns-else-format-le-NEAR : goal.returns-else-format-le-NEAR
+returns-else-format-le-NEAR c =
+    let a = c.args in
+    let far = c.convert_far.ensures in
+    let t =
+    converts a.time.now a.format.now a.buf.now c.moment_in-moment.result c.moment_in-moment.ensures
+    (fit a.time.now a.format.now c.if-format-gt-LONGEST.false c.if-time-ne5.false) _ _ (far.answer, far.buffer) in
+    record {
+      answer = t.0;
+      buffer = t.1;
+    }

@@ -1,0 +1,15 @@
+-- `month_name` meets its contract: each arm is a name of the list, and no other month has one.
+use mathlib.Core.Path.{◌∙◌, sym}
+use Prim.Native.Nat.{◌-◌, ◌≤◌}
+use native.Mathlib.Omega.{arith}
+use Rattle.dates.specs.Fields.{month_names}
+use Rattle.dates.proofs.Unnamed.{unnamed}
+use Rattle.dates.proofs.fields.month_name.Goals as goal
+
+pub returns-in_default : goal.returns-in_default
+returns-in_default c =
+    let r = c.in_default.in_default-own.rest in
+    let month = c.args.month in
+    let half : 7 ≤ month = omega (arith, c.requires, r.0.0.0.0.0.0.0.0.0.0.0.1, r.0.0.0.0.0.0.0.0.0.0.1, r.0.0.0.0.0.0.0.0.0.1, r.0.0.0.0.0.0.0.0.1, r.0.0.0.0.0.0.0.1, r.0.0.0.0.0.0.1) in
+    let more : 13 ≤ month = omega (arith, half, r.0.0.0.0.0.1, r.0.0.0.0.1, r.0.0.0.1, r.0.0.1, r.0.1, r.1) in
+    c.name-in_default.ensures ∙ sym (unnamed month_names (month - 1) (omega arith))
