@@ -1,5 +1,6 @@
 // GS strings: a text with quotes, codes and references, translated whole or refused.
 #![tactic(auto)]
+
 ghost use Rattle.std.specs.Prelude.{◌≡◌, ◌≤◌, length};
 ghost use Rattle.paper.specs.Traces.{bytes, answer};
 ghost use Rattle.indexes.specs.Indexes.{given_by};

@@ -15,9 +15,7 @@ use Rattle.gs.specs.declared.Translated.{Translated}
 use Rattle.variables.specs.Judgements.{judged, judged_by}
 use Rattle.variables.specs.declared.both.Judged.{Judged}
 use Rattle.variables.proofs.KeysFind.{keys_long, lines_inside, all_lines}
-use borrow.Author.Rules.{rules}
-use Rattle.gs.proofs.translate.Statement.{statement}
-use Rattle.gs.proofs.translate.Tie as tie
+use Rattle.gs.proofs.translate.Goals as goal
 
 module _ (text farm house : List ℕ) (given : Given) (flags allowance : ℕ) (out : List ℕ) where
   -- what is left in the buffer goes by the answer
@@ -37,25 +35,25 @@ module _ (text farm house : List ℕ) (given : Given) (flags allowance : ℕ) (o
       (e, leaves ∙ left_by_lem r e)
 
 -- where the text is found too long
-module _ (c : tie.After-refused) where
-  abbrev entered : tie.Start
+module _ (c : goal.After-refused) where
+  abbrev entered : goal.Start
   entered = c.before.before.before.before.before.before.before
 
   abbrev no_given : Given
   no_given = given_by entered.args.indexed entered.args.index.now
 
-returns : tie.Need-returns
-returns c =
+pub returns-then-text-gt-LONGEST : goal.returns-then-text-gt-LONGEST
+returns-then-text-gt-LONGEST c =
     let a = (entered c).args in
-    let e = c.refused.ensures ∙ too_long a.text.now a.farm.now a.house.now (no_given c) a.flags.0 a.allowance (length a.out.now) c.before.if1.true in (
-      e,
-      ap (λ r. left_by r (bytes (reading_of a.text.now a.farm.now a.house.now a.flags.0)) a.out.now) (sym c.refused.ensures)
-          ∙ left_by_lem a.text.now a.farm.now a.house.now (no_given c) a.flags.0 a.allowance a.out.now _ e,
-    )
+    let e = c.refused.ensures ∙ too_long a.text.now a.farm.now a.house.now (no_given c) a.flags.0 a.allowance (length a.out.now) c.if-text-gt-LONGEST.true in record {
+      answer = e;
+      buffer = ap (λ r. left_by r (bytes (reading_of a.text.now a.farm.now a.house.now a.flags.0)) a.out.now) (sym c.refused.ensures)
+          ∙ left_by_lem a.text.now a.farm.now a.house.now (no_given c) a.flags.0 a.allowance a.out.now _ e;
+    }
 
 -- where the tables and the index are judged
-module _ (c : tie.After-judge) where
-  abbrev start : tie.Start
+module _ (c : goal.After-judge-judged) where
+  abbrev start : goal.Start
   start = c.before.before.before.before.before.before.before.before
 
   abbrev farm : List ℕ
@@ -76,72 +74,60 @@ module _ (c : tie.After-judge) where
   by_judgement {k} e f =
       let a = start.args in
       ap (λ fit. translated_over (judged_by k) fit (reading_of a.text.now farm house a.flags.0) a.allowance (length a.out.now)) (sym f)
-      ∙ over a.text.now farm house given a.flags.0 a.allowance (length a.out.now) k c.before.before.if1.false e
+      ∙ over a.text.now farm house given a.flags.0 a.allowance (length a.out.now) k c.if-text-gt-LONGEST.false e
 
-  is_ready : {lines : ℕ} → c.judge.result ≡ Judgement.Good lines → Ready farm house given lines
-  is_ready e = ready farm house given (sym c.judge.ensures.0 ∙ e)
+  is_ready : {lines : ℕ} → c.judge-judged.result ≡ Judgement.Good lines → Ready farm house given lines
+  is_ready e = ready farm house given (sym c.judge-judged.ensures.answer ∙ e)
 
-slice-aggregate-lines : tie.Need-slice-aggregate-lines
-slice-aggregate-lines c = let t = c.before in keys_long (farm t) (to_lay (house t) (given t)) _ _ t.judge.ensures.1 refl
+pub slice_bounds-lines-end : goal.slice_bounds-lines-end
+slice_bounds-lines-end c = let t = c.before in keys_long (farm t) (to_lay (house t) (given t)) _ _ t.judge-judged.ensures.keys refl
 
-part-fill-end : tie.Need-slice-bounds-fill-end
-part-fill-end c =
+pub slice_bounds-fill-end : goal.slice_bounds-fill-end
+slice_bounds-fill-end c =
     let k = c.before in
     let t = k.before.before.before in
-    lines_inside (farm t) (to_lay (house t) (given t)) _ t.judge.ensures.1 (is_ready t k.judged2.given.1).lined
+    lines_inside (farm t) (to_lay (house t) (given t)) _ t.judge-judged.ensures.keys (is_ready t k.in-Good.is).lined
 
-fill-requires : tie.Need-fill-requires
-fill-requires c κs =
+pub fill-requires : goal.fill-requires
+fill-requires c =
     let g = c.before.before in
     let k = g.before.before.before in
     let t = k.before.before.before in
-    let r = is_ready t k.judged2.given.1 in
-    let keys = all_lines (farm t) (to_lay (house t) (given t)) _ t.judge.ensures.1 r.lined in
-    (t.before.before.if1.false, c.before.cap.ensures.1, subst (Leads (farm t) (house t) _) (sym g.bytes_given.ensures) (r.leads keys))
+    let r = is_ready t k.in-Good.is in
+    let keys = all_lines (farm t) (to_lay (house t) (given t)) _ t.judge-judged.ensures.keys r.lined in
+    (t.if-text-gt-LONGEST.false, c.cap.ensures.1, subst (Leads (farm t) (house t) _) (sym g.bytes_given.ensures) (r.leads keys))
 
-returns-2 : tie.Need-returns-2
-returns-2 c =
+pub returns-in-BadTable : goal.returns-in-BadTable
+returns-in-BadTable c =
     let t = c.before.before.before.before in
     let a = (start t).args in
-    let e = by_judgement t (refused_table (farm t) (house t) (given t) (sym t.judge.ensures.0 ∙ c.before.judged.given.1)) refl in
-    (e, left_by_lem a.text.now a.farm.now a.house.now (given t) a.flags.0 a.allowance a.out.now _ e)
+    let e = by_judgement t (refused_table (farm t) (house t) (given t) (sym t.judge-judged.ensures.answer ∙ c.in-BadTable.is)) refl in
+    record {
+      answer = e;
+      buffer = left_by_lem a.text.now a.farm.now a.house.now (given t) a.flags.0 a.allowance a.out.now _ e;
+    }
 
-returns-3 : tie.Need-returns-3
-returns-3 c =
+pub returns-in-BadIndex : goal.returns-in-BadIndex
+returns-in-BadIndex c =
     let t = c.before.before.before in
     let a = (start t).args in
-    let refused = refused_index (farm t) (house t) (given t) (sym t.judge.ensures.0 ∙ c.enum_told.given.1) in
+    let refused = refused_index (farm t) (house t) (given t) (sym t.judge-judged.ensures.answer ∙ c.in-BadIndex.is) in
     let e = by_judgement t refused.1 refused.2 in
-    (e, left_by_lem a.text.now a.farm.now a.house.now (given t) a.flags.0 a.allowance a.out.now _ e)
+    record {
+      answer = e;
+      buffer = left_by_lem a.text.now a.farm.now a.house.now (given t) a.flags.0 a.allowance a.out.now _ e;
+    }
 
-returns-4 : tie.Need-returns-4
-returns-4 c =
+pub returns-in-Good : goal.returns-in-Good
+returns-in-Good c =
     let put = c.before.before in
     let k = put.before.before.before.before.before.before in
     let t = k.before.before.before in
     let a = (start t).args in
-    let r = is_ready t k.judged2.given.1 in
-    filled a.text.now a.farm.now a.house.now (given t) a.flags.0 a.allowance a.out.now _ _ _ put.fill.ensures.0
-    put.before.before.cap.ensures.0 (by_judgement t r.good r.fit) put.fill.ensures.1
-
-pub translate_spec : {M : Type 1} → statement M
-translate_spec =
-    tie.close
-    (tie.spec
-    (λ c κs. search rules)
-    returns
-    (λ c κs. search rules)
-    slice-aggregate-lines
-    (λ c. search rules)
-    (λ c. search rules)
-    (λ c. search rules)
-    (λ c. search rules)
-    (λ c. search rules)
-    part-fill-end
-    (λ c κs. search rules)
-    (λ c κs. search rules)
-    fill-requires
-    returns-2
-    returns-3
-    (λ c. search rules)
-    returns-4)
+    let r = is_ready t k.in-Good.is in
+    record {
+      answer = (filled a.text.now a.farm.now a.house.now (given t) a.flags.0 a.allowance a.out.now _ _ _ put.fill.ensures.answer
+          put.cap.ensures.0 (by_judgement t r.good r.fit) put.fill.ensures.buffer).0;
+      buffer = (filled a.text.now a.farm.now a.house.now (given t) a.flags.0 a.allowance a.out.now _ _ _ put.fill.ensures.answer
+          put.cap.ensures.0 (by_judgement t r.good r.fit) put.fill.ensures.buffer).1;
+    }

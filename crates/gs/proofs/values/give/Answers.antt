@@ -4,14 +4,12 @@ use mathlib.Core.List.{List}
 use Prim.Native.Nat.{ℕ, suc, ◌+◌, ◌-◌, ◌≤◌}
 use native.Mathlib.Omega.{arith}
 use lib.ListN.{length}
-use borrow.Author.Rules.{rules}
 use Rattle.paper.specs.Traces.{Trace, asks, spends, run}
 use Rattle.gs.specs.Readings.{gives_all}
 use Rattle.gs.specs.inner.Steps.{Laid, Passes, Came, came_going, came_refused}
 use Rattle.gs.specs.declared.steps.Progress.TheVariants.{Going, Refused}
 use Rattle.gs.proofs.Pieces.{laid_at_lem, passes_all}
-use Rattle.gs.proofs.values.give.Statement.{statement}
-use Rattle.gs.proofs.values.give.Tie as tie
+use Rattle.gs.proofs.values.give.Goals as goal
 
 module _ (given out name : List ℕ) (left place to : ℕ) where
   piece : Trace → Trace
@@ -28,16 +26,12 @@ module _ (given out name : List ℕ) (left place to : ℕ) where
       (subst (λ l. Passes (λ rest. asks name (spends place (gives_all given rest))) l (left - 1) given) back (passes_all given name place (left - 1) small))
       laid
 
-returns : tie.Need-returns
+pub returns-then-carried-eq0 : goal.returns-then-carried-eq0
+returns-then-carried-eq0 c name =
+    let a = c.args in
+    none_left a.given.now a.out.now name a.carried.left a.place a.carried.to c.if-carried-eq0.true
+
+pub returns : goal.returns
 returns c name =
-    let a = c.before.before.before.before.args in
-    none_left a.given.now a.out.now name a.carried.left a.place a.carried.to c.if1.true
-
-returns-2 : tie.Need-returns-2
-returns-2 c name =
-    let a = c.before.before.before.before.before.before.before.before.before.before.args in
-    some_left a.given.now a.out.now name a.carried.left a.place a.carried.to _ c.before.before.before.before.before.before.if1.false c.before.before.before.before.before.before.before.before.before.before.requires.0 (laid_at_lem _ _ _ _ c.before.before.before.before.copy.ensures)
-
-pub give_spec : {M : Type 1} → statement M
-give_spec =
-    tie.close (tie.spec returns (λ c κs. search rules) (λ c. search rules) (λ c. search rules) (λ c. search rules) returns-2)
+    let a = c.args in
+    some_left a.given.now a.out.now name a.carried.left a.place a.carried.to _ c.if-carried-eq0.false c.requires.0 (laid_at_lem _ _ _ _ c.copy.ensures)
