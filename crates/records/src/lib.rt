@@ -101,6 +101,7 @@ fn fits_kind(kind: u8, length: usize) -> bool
 }
 
 // The lengths of the name and of the value, and an end inside the slice.
+#[tactic(auto, unfolding(crate::specs::Records::sized), using(std::proofs::lemmas::Bool::Decides::nat_tests))]
 fn is_sized(table: &[u8], place: u32) -> bool
     ensures { result ≡ sized table.now place }
 {

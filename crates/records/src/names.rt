@@ -20,6 +20,7 @@ pub(crate) fn all_name_bytes(name: &[u8]) -> bool
 }
 
 // A letter A to Z as its small one; no other byte has a case.
+#[tactic(auto, unfolding(crate::specs::Records::small), using(std::proofs::lemmas::Bool::Decides::nat_tests))]
 fn small(c: u8) -> u8
     ensures { result ≡ small c }
 {

@@ -1,14 +1,9 @@
 -- `all_name_bytes` meets its contract. The loop's invariant: whether all bytes are allowed hangs on those from there on.
 -- The measure is what is left of the length.
-use mathlib.Core.Bool.{true, false}
-use mathlib.Core.Path.{◌≡◌, refl, sym, ◌∙◌}
-use mathlib.Core.List.{List}
-use Prim.Native.Nat.{ℕ, ◌+◌, ◌-◌, ◌<◌}
-use native.Mathlib.Omega.{arith}
-use lib.ListN.{length, get_or, drop, drop_of_length-le}
-use Rattle.paper.specs.Bytes.{name_byte}
+use mathlib.Core.Path.{◌≡◌}
+use Prim.Native.Nat.{◌-◌}
+use lib.ListN.{length, drop}
 use Rattle.records.specs.Records.{all_name_bytes}
-use Rattle.records.proofs.Equal.{allowed_more}
 use Rattle.records.proofs.names.all_name_bytes.Given as goal
 
 abbrev pub invariant-loop-at : goal.invariant-loop-at

@@ -1,6 +1,6 @@
 -- `comes_before` meets its contract. The loop's invariant: which name comes first hangs on their bytes from there on. The measure is what
 -- is left of the first.
-use mathlib.Core.Path.{◌≡◌, refl, ap₂, sym, ◌∙◌}
+use mathlib.Core.Path.{refl, ap₂, sym, ◌∙◌}
 use native.Mathlib.Omega.{arith}
 use lib.Dec.{ltb}
 use Rattle.records.proofs.Order.{beginning_first, beginning_ends, before_more, before_here}

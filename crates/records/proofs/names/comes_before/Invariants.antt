@@ -1,13 +1,9 @@
 -- `comes_before` meets its contract. The loop's invariant: which name comes first hangs on their bytes from there on. The measure is what
 -- is left of the first.
-use mathlib.Core.Path.{◌≡◌, refl, ap₂, sym, ◌∙◌}
-use mathlib.Core.List.{List}
-use Prim.Native.Nat.{ℕ, ◌-◌, ◌≤◌}
-use native.Mathlib.Omega.{arith}
-use lib.Dec.{ltb}
+use mathlib.Core.Path.{◌≡◌}
+use Prim.Native.Nat.{◌-◌, ◌≤◌}
 use lib.ListN.{length, drop}
 use Rattle.records.specs.Records.{comes_before}
-use Rattle.records.proofs.Order.{beginning_first, beginning_ends, before_more, before_here}
 use Rattle.records.proofs.names.comes_before.Given as goal
 
 abbrev pub invariant-loop-at : goal.invariant-loop-at

@@ -1,11 +1,9 @@
 -- `key_of` meets its contract. The loop's invariant: the key comes to what it comes to from there on.
 -- The measure is what is left of the name.
-use mathlib.Core.Path.{◌≡◌, refl, ap, sym, ◌∙◌}
-use Prim.Native.Nat.{◌+◌, ◌*◌, ◌-◌, ◌%◌, ◌<◌}
-use native.Mathlib.Omega.{arith}
+use mathlib.Core.Path.{◌≡◌}
+use Prim.Native.Nat.{◌-◌, ◌<◌}
 use lib.ListN.{length, drop}
 use Rattle.records.specs.inner.Keys.{key_from}
-use Rattle.records.proofs.KeyLaws.{key_more, key_end}
 use Rattle.records.proofs.names.key_of.Given as goal
 
 abbrev pub invariant-loop-at : goal.invariant-loop-at

@@ -6,7 +6,7 @@ use mathlib.Core.Path.{◌≡◌, sym, ◌∙◌}
 use Prim.Native.Nat.{ℕ, ◌+◌, ◌-◌, ◌<◌, ◌≤◌}
 use native.Mathlib.Omega.{arith}
 use lib.Dec.{eqb}
-use lib.ListN.{length, get_or, drop}
+use lib.ListN.{length, get_or}
 use Rattle.records.specs.Records.{small, same_name}
 use Rattle.records.proofs.Equal.{same_more, same_end, other_length}
 use Rattle.records.proofs.names.same_name.Invariants.{rest}

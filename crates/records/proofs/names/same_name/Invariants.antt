@@ -1,14 +1,11 @@
 -- `same_name` meets its contract. The loop's invariant: the names are as long as each other, and equal if they are from there on.
 -- The measure is what is left of them.
-use mathlib.Core.Bool.{Bool, true, false}
+use mathlib.Core.Bool.{Bool}
 use mathlib.Core.List.{List}
-use mathlib.Core.Path.{◌≡◌, sym, ◌∙◌}
-use Prim.Native.Nat.{ℕ, ◌+◌, ◌-◌, ◌<◌, ◌≤◌}
-use native.Mathlib.Omega.{arith}
-use lib.Dec.{eqb}
-use lib.ListN.{length, get_or, drop}
-use Rattle.records.specs.Records.{small, same_name}
-use Rattle.records.proofs.Equal.{same_more, same_end, other_length}
+use mathlib.Core.Path.{◌≡◌}
+use Prim.Native.Nat.{ℕ, ◌-◌, ◌≤◌}
+use lib.ListN.{length, drop}
+use Rattle.records.specs.Records.{same_name}
 use Rattle.records.proofs.names.same_name.Given as goal
 
 -- the names without the bytes that were compared
