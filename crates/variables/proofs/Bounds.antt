@@ -2,7 +2,7 @@
 use mathlib.Core.Bool.{false}
 use mathlib.Core.List.Memᴰ.{head}
 use mathlib.Core.List.Memᴰ.{tail}
-use mathlib.Core.List.{List, [], ◌∷◌, Memᴰ}
+use mathlib.Core.List.{List, Memᴰ}
 use mathlib.Core.Logic.{◌↔◌}
 use mathlib.Core.Path.{◌≡◌, refl, subst}
 use Prim.Native.Nat.{ℕ, zero, suc, ◌+◌, ◌≤◌, ◌<◌}
@@ -10,26 +10,21 @@ use native.Mathlib.Omega.{arith}
 use borrow.Author.Tests.{leb-false, ltb-true, ltb-false}
 use lib.Dec.{ltb, leb}
 use lib.ListN.{length, get_or}
-use Rattle.paper.specs.Refusals.{unknown_name, allowance_spent, bad_table, over_length, longest}
+use Rattle.paper.specs.Refusals.{allowance_spent, bad_table, over_length, longest}
 use Rattle.paper.specs.declared.Holder.{Holder}
 use Rattle.paper.specs.declared.Holder.TheVariants.{Farm, House}
 use Rattle.paper.specs.declared.RecordPlace.{RecordPlace}
 use Rattle.paper.proofs.Choice.{clash, either}
 use Rattle.records.specs.Records.{next_place}
-use Rattle.records.specs.Kinds.{kind_of}
-use Rattle.records.proofs.KindLaws.{kind_bounded}
 use Rattle.variables.specs.Tables as Tables
 use Rattle.variables.specs.Tables.{most, Sought, absent, present, sound, scanned, scan, checked, records_of, sought_in, check_number, check_place, check_count, check_numbers}
-use Rattle.variables.specs.Holdings.{held_by, Holding, nowhere, held, held_in, or_else, sought_in_both}
+use Rattle.variables.specs.Holdings.{held_by}
 use Rattle.variables.specs.Judgements.{bad_table_at, judged}
 use Rattle.variables.specs.declared.Checked.{Checked}
 use Rattle.variables.specs.declared.Checked.TheVariants.{Good, BadTable}
 use Rattle.variables.specs.declared.both.Judged.{Judged}
 use Rattle.variables.specs.declared.both.Judged.TheVariants.{Good as AllGood, BadTable as OneBad}
-use Rattle.variables.proofs.Good.{Laid, laid, wholes}
-use Rattle.variables.proofs.Judging.{Case, long_farm, long_house, bad_farm, bad_house, both_good, judged_case, both_are}
-use Rattle.variables.proofs.Lines.{or_nowhere}
-use Rattle.variables.proofs.Unique.{found}
+use Rattle.variables.proofs.Judging.{Case, long_farm, long_house, bad_farm, bad_house, both_good, judged_case}
 
 pub record Bounded (r : Checked) : Type 0 where
   pub number : check_number r ≤ 255

@@ -14,13 +14,12 @@ use Rattle.paper.specs.declared.Holder.{Holder}
 use Rattle.records.specs.Records.{next_place}
 use Rattle.variables.specs.Tables.{sound, bad_table_at, scanned, most, before}
 use Rattle.variables.specs.inner.Keys.{lines_of, laid_over, passed_lines}
-use Rattle.variables.specs.inner.Notes.{AllNoted}
 use Rattle.variables.specs.declared.Checked.{Checked}
 use Rattle.variables.specs.declared.Checked.TheVariants.{Good}
 use Rattle.variables.proofs.Good.{next_inside}
 use Rattle.variables.proofs.Lines.{key_of_line}
 use Rattle.variables.proofs.NoteLaws.{none_noted, noted_more, noted_part}
-use Rattle.variables.proofs.Passed.{Passed, at_first, passed_part, passed_more}
+use Rattle.variables.proofs.Passed.{at_first, passed_part, passed_more}
 use Rattle.variables.proofs.scan.Goals as goal
 
 module _ (table : List ℕ) (count place : ℕ) where

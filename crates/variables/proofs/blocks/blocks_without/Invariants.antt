@@ -1,9 +1,7 @@
 -- `blocks_without` meets its contract. The loop's invariant: no line up to here has the key. The measure is what is left of the lines.
 use Prim.Native.Nat.{◌-◌}
-use native.Mathlib.Omega.{arith}
 use lib.ListN.{length}
 use Rattle.variables.specs.inner.Keys.{Without}
-use Rattle.variables.proofs.Lines.{without_none}
 use Rattle.variables.proofs.blocks.blocks_without.Given as goal
 
 abbrev pub invariant-loop-at : goal.invariant-loop-at

@@ -1,12 +1,8 @@
 -- `hits` meets its contract. The loop's invariant: while what is joined is 0, the lines passed do not have the key. The measure is what
 -- is left of the block.
-use mathlib.Core.Path.{◌≡◌, subst}
-use Prim.Native.Nat.{ℕ, ◌+◌, ◌-◌, ◌≤◌}
-use native.Mathlib.Nat.{add-zero}
-use native.Mathlib.Omega.{arith}
-use lib.Bits.{bit_or, or_add_and, and_le_l, and_le_r}
+use mathlib.Core.Path.{◌≡◌}
+use Prim.Native.Nat.{◌+◌, ◌-◌, ◌≤◌}
 use Rattle.variables.specs.inner.Keys.{Without}
-use Rattle.variables.proofs.Lines.{without_more}
 use Rattle.variables.proofs.blocks.hits.Given as goal
 
 abbrev pub invariant-loop-i : goal.invariant-loop-i

@@ -1,5 +1,5 @@
 -- `key_tables` meets its contract: the lengths of both tables are tested before the records of either are.
-use mathlib.Core.Path.{◌≡◌, refl, ap, sym, ◌∙◌}
+use mathlib.Core.Path.{refl}
 use borrow.Author.Tests.{lt-ltb, le-ltb}
 use Rattle.variables.specs.Judgements.{judged}
 use Rattle.variables.proofs.both.key_tables.Goals as goal

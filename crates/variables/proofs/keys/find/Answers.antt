@@ -3,13 +3,13 @@
 use mathlib.Core.Bool.{Bool, ◌&&◌}
 use mathlib.Core.List.{List}
 use mathlib.Core.Path.{◌≡◌, ap, sym, ◌∙◌}
-use Prim.Native.Nat.{ℕ, ◌-◌, ◌%◌}
+use Prim.Native.Nat.{ℕ, ◌%◌}
 use native.Mathlib.Omega.{arith}
 use lib.Dec.{eqb}
-use lib.ListN.{length, get_or, drop}
+use lib.ListN.{get_or}
 use Rattle.records.specs.Records.{same_name}
 use Rattle.records.specs.inner.Keys.{key_of}
-use Rattle.variables.specs.inner.Keys.{record_by, names, sought_by, match_as}
+use Rattle.variables.specs.inner.Keys.{record_by, names, match_as}
 use Rattle.variables.specs.declared.Match.TheVariants.{Record}
 use Rattle.variables.proofs.Lines.{unmet, met, not_met, without_whole, passed_over}
 use Rattle.variables.proofs.keys.find.Goals as goal
