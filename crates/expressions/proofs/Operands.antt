@@ -1,5 +1,5 @@
 -- An operand by its first token: the part that the code makes of each is that of the definition.
-use mathlib.Core.Bool.{Bool, true, false, not}
+use mathlib.Core.Bool.{true, false}
 use mathlib.Core.List.{List}
 use mathlib.Core.Path.{◌≡◌, refl, sym, ap, subst, ◌∙◌}
 use Prim.Native.Nat.{ℕ, zero, suc, ◌-◌}
@@ -23,14 +23,6 @@ use Rattle.parts.specs.declared.Part.{Part}
 use Rattle.parts.specs.declared.Part.TheVariants.{Faulty}
 use Rattle.tokens.proofs.Places.{Takes, Stands, stands, asked_within}
 use Rattle.expressions.proofs.Joins.{part_covered, part_up_to_lem}
-
-not_alone : (b : Bool) → not b ≡ true → b ≡ false
-not_alone false e = refl
-not_alone true e = sym e
-
-alone : (b : Bool) → not b ≡ false → b ≡ true
-alone true e = refl
-alone false e = sym e
 
 -- the place of a name's bytes
 pub name_stands : (text : List ℕ) (at : ℕ) (l : Lexed) → lexeme_of l ≡ token_at text at → l.token ≡ Name → Stands text at (lexeme_of l)
@@ -61,11 +53,11 @@ module _ (names : List ℕ → Meaning) (text : List ℕ) (account : Account) (l
 
   module _ (operator : Operator) (e : l.token ≡ Operates operator) where
     -- an operator that stands before no operand alone
-    pub misplaced : (r : Part) → not (stands_alone operator) ≡ true → r ≡ Faulty BadExpression l.place
+    pub misplaced : (r : Part) → stands_alone operator ≡ false → r ≡ Faulty BadExpression l.place
         → r ≡ part_of names account (operand_at text levels at)
-    misplaced r n h = starts_with (Operates operator) (faulty BadExpression l.place) r e (skip (stands_alone operator) _ _ (not_alone _ n) refl) h
+    misplaced r n h = starts_with (Operates operator) (faulty BadExpression l.place) r e (skip (stands_alone operator) _ _ n refl) h
 
-    pub operator_too_deep : not (stands_alone operator) ≡ false → levels ≡ 0
+    pub operator_too_deep : stands_alone operator ≡ true → levels ≡ 0
         → Faulty TooDeep l.place ≡ part_of names account (operand_at text levels at)
     operator_too_deep n z =
         starts_with (Operates operator) (faulty TooDeep l.place) _ e
@@ -73,15 +65,15 @@ module _ (names : List ℕ → Meaning) (text : List ℕ) (account : Account) (l
       where
         skip_to : faulty TooDeep l.place ≡ (deeper_in levels).under operator l.place l.next
             → faulty TooDeep l.place ≡ operand_by text (deeper_in levels) (Operates operator) l.place l.next
-        skip_to h = hit (stands_alone operator) _ _ (alone _ n) h
+        skip_to h = hit (stands_alone operator) _ _ n h
 
-    pub operator_covers : (inner r : Part) → not (stands_alone operator) ≡ false → (levels ≡ 0 → ⊥)
+    pub operator_covers : (inner r : Part) → stands_alone operator ≡ true → (levels ≡ 0 → ⊥)
         → inner ≡ part_of names account (operand_at text (levels - 1) l.next) → r ≡ covered_part operator inner
         → r ≡ part_of names account (operand_at text levels at)
     operator_covers inner r n z i h =
         let fewer : levels ≡ suc (levels - 1) = omega arith in
         starts_with (Operates operator) (covered operator (operand_at text (levels - 1) l.next)) r e
-        (hit (stands_alone operator) _ _ (alone _ n) (ap (λ d. (deeper_in d).under operator l.place l.next) (sym fewer)))
+        (hit (stands_alone operator) _ _ n (ap (λ d. (deeper_in d).under operator l.place l.next) (sym fewer)))
         (h ∙ ap (covered_part operator) i ∙ part_covered names operator account (operand_at text (levels - 1) l.next))
 
   module _ (e : l.token ≡ Open) where

@@ -1,5 +1,6 @@
 // Expressions: a text of numbers, names, operators and brackets, evaluated whole or refused.
 #![tactic(auto)]
+
 ghost use Rattle.std.specs.Prelude.{◌≡◌};
 ghost use Rattle.paper.specs.Traces.{run};
 ghost use Rattle.variables.specs.inner.Keys.{Keys};

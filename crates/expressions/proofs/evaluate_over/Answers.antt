@@ -14,9 +14,7 @@ use Rattle.parts.specs.declared.Account.TheVariants.{Open}
 use Rattle.parts.specs.declared.behind.Wanted.TheVariants.{TextEnd}
 use Rattle.parts.specs.declared.Part.{Part}
 use Rattle.expressions.proofs.Joins.{part_up_to_lem, part_answer}
-use borrow.Author.Rules.{rules}
-use Rattle.expressions.proofs.evaluate_over.Statement.{statement}
-use Rattle.expressions.proofs.evaluate_over.Tie as tie
+use Rattle.expressions.proofs.evaluate_over.Goals as goal
 
 evaluated_whole : (text farm house : List ℕ) (left : ℕ) (part last : Part) (r : Evaluated)
     → part ≡ part_of (names_of farm house) (Open left) (level_at text loosest (operand_at text 16) 0) → last ≡ part_up_to text TextEnd part → r ≡ answer_of last
@@ -27,9 +25,5 @@ evaluated_whole text farm house left part last r p e h =
     h ∙ ap answer_of (e ∙ ap (part_up_to text TextEnd) p ∙ part_up_to_lem (names_of farm house) text TextEnd (Open left) parsed)
     ∙ part_answer (names_of farm house) left (tree_up_to text TextEnd parsed)
 
-returns : tie.Need-returns
-returns c = evaluated_whole _ _ _ _ _ _ _ c.before.before.disjunction.ensures c.before.up_to.ensures c.answer-of.ensures
-
-pub evaluate_over_spec : {M : Type 1} → statement M
-evaluate_over_spec =
-    tie.close (tie.spec (λ c κs. search rules) (λ c κs. search rules) (λ c κs. search rules) returns)
+pub returns : goal.returns
+returns c = evaluated_whole _ _ _ _ _ _ _ c.disjunction-part.ensures c.up_to.ensures c.answer_of.ensures
