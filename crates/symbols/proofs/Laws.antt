@@ -1,19 +1,19 @@
 -- What the proofs share: bytes that have no code, the symbol at a place as one row of tests, and ordinary bytes.
-use mathlib.Core.Bool.{Bool, true, false, cond, not, ◌&&◌, ◌||◌, and-false, and-eq-true_iff}
+use mathlib.Core.Bool.{Bool, true, false, cond, ◌||◌, and-false, and-eq-true_iff}
 use mathlib.Core.List.{List}
-use mathlib.Core.Path.{◌≡◌, refl, ap, ◌∙◌}
+use mathlib.Core.Path.{◌≡◌, refl, ap}
 use Prim.Native.Nat.{ℕ, ◌+◌, ◌<◌}
 use native.Mathlib.Omega.{arith}
-use borrow.Author.Tests.{eqb-true, ne_eqb}
-use lib.Dec.{eqb}
+use borrow.Author.Tests.{ltb-true, eqb-false, not-true, ne_eqb}
+use lib.Dec.{ltb, eqb}
 use lib.ListN.{get_or}
 use Rattle.paper.specs.Bytes.{ends}
 use Rattle.symbols.specs.declared.forms.Mode.{Mode}
 use Rattle.symbols.specs.declared.forms.Mode.TheVariants.{Plain, Quoted}
 use Rattle.symbols.specs.declared.forms.Symbol.{Symbol}
 use Rattle.symbols.specs.declared.forms.Symbol.TheVariants.{End, Byte}
-use Rattle.symbols.specs.Flags.{space_ends, bar_plain}
-use Rattle.symbols.specs.inner.SymbolSteps.{at_end, other, Ordinary}
+use Rattle.symbols.specs.Flags.{space_ends}
+use Rattle.symbols.specs.inner.SymbolSteps.{unmarked, at_end, other, Ordinary}
 use Rattle.symbols.specs.Symbols.{punctuation, code, ending_space, active, plain_symbol, quoted_other, symbol_at}
 
 pub left_false : (a b : Bool) → (a || b) ≡ false → a ≡ false
@@ -67,28 +67,21 @@ no_space : (flags : ℕ) (mode : Mode) (c : ℕ) → (c ≡ 32 → ⊥) → endi
 no_space flags Plain c n = rw (ne_eqb c 32 n) (and-false (space_ends flags))
 no_space flags (Quoted quote) c n = refl
 
--- tests of which only one can hold may be made in another order
-reordered :
-    {A : Type 0} (mark reference end space : Bool) (ended stopped code name other : A) → (mark ≡ true → end ≡ false) → (mark ≡ true → space ≡ false) →
-    (reference ≡ true → end ≡ false) → (reference ≡ true → space ≡ false) →
-    cond end ended (cond space stopped (cond mark code (cond reference name other))) ≡
-    cond mark code (cond reference name (cond end ended (cond space stopped other)))
-reordered true reference end space ended stopped code name other a b c d = rw (a refl, b refl)
-reordered false true end space ended stopped code name other a b c d = rw (c refl, d refl)
-reordered false false end space ended stopped code name other a b c d = refl
-
--- the tests of `symbol_at` with the marks first
-pub symbol_ordered :
-    (text : List ℕ) (flags : ℕ) (mode : Mode) (at : ℕ) →
-    symbol_at text flags mode at ≡
-    active text flags mode at (cond (ends (get_or text at 0)) (at_end mode at)
-    (cond (ending_space flags mode (get_or text at 0)) (End (record { 0 = at })) (other text flags mode at)))
-unfolding active
-symbol_ordered text flags mode at =
+pub unmarked_byte :
+    (text : List ℕ) (flags : ℕ) (mode : Mode) (at : ℕ) → unmarked (get_or text at 0) ≡ true →
+    symbol_at text flags mode at ≡ Byte (get_or text at 0) (at + 1)
+unmarked_byte text flags mode at u =
     let c = get_or text at 0 in
-    let bar : (eqb c 124 && not (bar_plain flags)) ≡ true → c ≡ 124 = λ m. eqb-true c 124 ((and-eq-true_iff (eqb c 124) _).0 m).0 in
-    let angle : eqb c 60 ≡ true → c ≡ 60 = eqb-true c 60 in
-    symbol_tested text flags mode at
-    ∙ reordered (eqb c 124 && not (bar_plain flags)) (eqb c 60) (ends c) (ending_space flags mode c) _ _ _ _ _
-    (λ m. ap ends (bar m)) (λ m. no_space flags mode c (λ e. omega (arith, bar m)))
-    (λ r. ap ends (angle r)) (λ r. no_space flags mode c (λ e. omega (arith, angle r)))
+    let above = (and-eq-true_iff (ltb 34 c) _).0 u in
+    let marks = (and-eq-true_iff _ _).0 above.1 in
+    let large = ltb-true 34 c above.0 in
+    ordinary_byte text flags at mode
+    (record {
+      no_zero = λ e. omega arith;
+      no_line = λ e. omega arith;
+      no_return = λ e. omega arith;
+      no_quote = λ e. omega arith;
+      no_reference = eqb-false c 60 (not-true (eqb c 60) marks.0);
+      no_bar = eqb-false c 124 (not-true (eqb c 124) marks.1);
+    })
+    (no_space flags mode c (λ e. omega arith))

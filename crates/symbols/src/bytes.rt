@@ -1,11 +1,18 @@
 // What a byte of a text is, by its flags and its mode.
 ghost use Rattle.std.specs.Prelude.{◌≡◌};
-ghost use Rattle.symbols.specs.inner.SymbolSteps.{stops, marks};
+ghost use Rattle.symbols.specs.inner.SymbolSteps.{unmarked, stops, marks};
 ghost use Rattle.symbols.specs.Symbols.{ending_space};
 
 use crate::flags::Flags;
 use crate::forms::Mode;
 use paper::bytes::is_end;
+
+// Whether a byte is itself in every text: most are, and this is the quickest test that finds those.
+pub(crate) fn is_unmarked(c: u8) -> bool
+    ensures { result ≡ unmarked c }
+{
+    b'"' < c && (c != b'<' && c != b'|')
+}
 
 // Whether an end or a space.
 pub(crate) fn is_stop(c: u8) -> bool

@@ -3,7 +3,7 @@ ghost use Rattle.std.specs.Prelude.{◌≡◌, ◌≤◌, length};
 ghost use Rattle.symbols.specs.inner.SymbolSteps.{ended_at, at_end, other};
 ghost use Rattle.symbols.specs.Symbols.{referred, closed, quoted_other, symbol_at, first_at, mode_of};
 
-use crate::bytes::{is_ending_space, is_mark, is_stop};
+use crate::bytes::{is_ending_space, is_mark, is_stop, is_unmarked};
 use crate::codes::barred;
 use crate::flags::Flags;
 use crate::forms::{Mode, Symbol, faulty};
@@ -96,23 +96,25 @@ fn other(text: &[u8], flags: Flags, mode: Mode, at: usize) -> Symbol
     }
 }
 
-// The symbol at a place, any place: past the slice's end the text has ended, so that nothing behind such a place is read or counted. The
-// marks are tested for first: behind bytes that were passed over as plain, they are what stands there most often.
+// The symbol at a place, any place: past the slice's end the text has ended, so that nothing behind such a place is read or counted.
 pub fn symbol_at(text: &[u8], flags: Flags, mode: Mode, at: usize) -> Symbol
     ensures { result ≡ symbol_at text.now flags.0 mode at }
 {
     let c = byte(text, at);
-    if is_mark(b'|', flags, Flags::BAR_PLAIN, c) {
-        return barred(text, flags, mode, at);
-    }
-    if c == b'<' {
-        return referred(text, at);
+    if is_unmarked(c) {
+        return Symbol::Byte(c, at + 1);
     }
     if is_end(c) {
         return at_end(mode, at);
     }
     if is_ending_space(flags, mode, c) {
         return Symbol::End(TextPlace(at));
+    }
+    if is_mark(b'|', flags, Flags::BAR_PLAIN, c) {
+        return barred(text, flags, mode, at);
+    }
+    if c == b'<' {
+        return referred(text, at);
     }
     other(text, flags, mode, at)
 }

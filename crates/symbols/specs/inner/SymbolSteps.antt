@@ -1,5 +1,5 @@
 -- What the functions that find one symbol give, and the bytes that stand for themselves.
-use Rattle.std.specs.Prelude.{◌≡◌, Bool, cond, not, ◌&&◌, ◌||◌, List, ℕ, ◌≤◌, ◌<◌, eqb, length, get_or}
+use Rattle.std.specs.Prelude.{◌≡◌, Bool, cond, not, ◌&&◌, ◌||◌, List, ℕ, ◌≤◌, ◌<◌, ltb, eqb, length, get_or}
 use Rattle.paper.specs.Bytes.{ends}
 use Rattle.paper.specs.declared.faults.Fault.TheVariants.{BadString}
 use Rattle.symbols.specs.Flags.{has}
@@ -8,6 +8,10 @@ use Rattle.symbols.specs.declared.forms.Mode.{Mode}
 use Rattle.symbols.specs.declared.forms.Mode.TheVariants.{Plain, Quoted}
 use Rattle.symbols.specs.declared.forms.Symbol.{Symbol}
 use Rattle.symbols.specs.declared.forms.Symbol.TheVariants.{End}
+
+-- a byte above the quote that is no "<" and no "|"
+abbrev pub unmarked : ℕ → Bool
+unmarked c = ltb 34 c && (not (eqb c 60) && not (eqb c 124))
 
 -- an end or a space
 abbrev pub stops : ℕ → Bool
