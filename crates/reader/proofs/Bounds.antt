@@ -1,9 +1,14 @@
 -- Every answer of `reading` has a place up to 65,535, a value of 32 bits, and a number that is listed.
-use Rattle.std.proofs.Common.{ℕ, ◌+◌, ◌<◌, ◌≤◌, Bool, ◌||◌, eqb, ltb, List, length, get_or, drop, refl, arith, ltb-false, eqb-true}
-use mathlib.Core.Bool.{and-eq-true_iff}
+use mathlib.Core.Bool.{Bool, ◌||◌, and-eq-true_iff}
 use mathlib.Core.List.Memᴰ.{head}
 use mathlib.Core.List.Memᴰ.{tail}
-use mathlib.Core.List.{Memᴰ}
+use mathlib.Core.List.{List, Memᴰ}
+use mathlib.Core.Path.{refl}
+use Prim.Native.Nat.{ℕ, ◌+◌, ◌≤◌, ◌<◌}
+use native.Mathlib.Omega.{arith}
+use borrow.Author.Tests.{ltb-false, eqb-true}
+use lib.Dec.{ltb, eqb}
+use lib.ListN.{length, get_or, drop}
 use Rattle.paper.specs.Refusals.{longest}
 use Rattle.paper.specs.Bytes.{space, spaces}
 use Rattle.reader.specs.declared.Reading.{Reading}

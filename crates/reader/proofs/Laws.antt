@@ -1,10 +1,19 @@
 -- What the proofs share: the digits that stand in a text from a place on, and values that are cut.
-use Rattle.std.proofs.Common.{◌≡◌, ℕ, suc, ◌+◌, ◌*◌, ◌<◌, ◌≤◌, Bool, ltb, List, [], ◌∷◌, length, get_or, drop, sym, ap, ◌∙◌, le-mul_of_pos_right, add-one, arith, length-drop, drop_of_length-le, drop-cons, le-ltb, lt-ltb}
-use native.Mathlib.Nat.{min-eq_left, min-eq_right}
+use mathlib.Core.Bool.{Bool}
+use mathlib.Core.List.{List, [], ◌∷◌}
+use mathlib.Core.Path.{◌≡◌, ap}
+use Prim.Native.Nat.{ℕ, suc, ◌+◌, ◌*◌, ◌<◌, ◌≤◌}
+use native.Mathlib.Nat.{le-mul_of_pos_right, min-eq_left, min-eq_right}
 use native.Mathlib.Decide.{dec_le}
+use native.Mathlib.Numerals.{add-one}
+use native.Mathlib.Omega.{arith}
+use borrow.Author.Tests.{lt-ltb, le-ltb}
+use lib.Dec.{ltb}
+use lib.ListN.{length, get_or, drop, length-drop, drop_of_length-le}
+use lib.Seq.{drop-cons}
 use Rattle.paper.proofs.Choice.{either}
 use Rattle.reader.specs.Reading.{digit, run, worth, judged, in_base}
-use Rattle.reader.specs.inner.Steps.{cut, StandsFor, DigitIn}
+use Rattle.reader.specs.inner.Steps.{cut, DigitIn}
 
 module _ (text : List ℕ) (at base : ℕ) where
   pub run_end : length text ≤ at → run base (drop at text) ≡ []
@@ -53,20 +62,12 @@ pub cut_settled : (base before : ℕ) (ds : List ℕ) → 0 < base → 429496729
 cut_settled base before ds h big = omega (arith, worth_grows base before ds h)
 
 module _ (text : List ℕ) (whole : Bool) (limit start first : ℕ) where
-  cut_judged : (end value : ℕ) → judged text whole limit start first end (cut value) ≡ judged text whole limit start first end value
+  pub cut_judged : (end value : ℕ) → judged text whole limit start first end (cut value) ≡ judged text whole limit start first end value
   unfolding judged
   cut_judged end value = cut_same (judged text whole limit start first end) value (λ h. rw (lt-ltb 4294967295 value h))
 
-  cut_in_base : (base : ℕ) → in_base text whole limit start first (cut base) ≡ in_base text whole limit start first base
+  pub cut_in_base : (base : ℕ) → in_base text whole limit start first (cut base) ≡ in_base text whole limit start first base
   unfolding in_base
   cut_in_base base =
       cut_same (in_base text whole limit start first) base
       (λ h. rw (le-ltb base 2 (omega arith), lt-ltb 36 base (omega arith)))
-
-  -- so neither tells what stands for a value from the value
-  module _ {carried value : ℕ} (s : StandsFor carried value) where
-    pub same_judged : (end : ℕ) → judged text whole limit start first end carried ≡ judged text whole limit start first end value
-    same_judged end = sym (cut_judged end carried) ∙ ap (judged text whole limit start first end) s.same ∙ cut_judged end value
-
-    pub same_in_base : in_base text whole limit start first carried ≡ in_base text whole limit start first value
-    same_in_base = sym (cut_in_base carried) ∙ ap (in_base text whole limit start first) s.same ∙ cut_in_base value

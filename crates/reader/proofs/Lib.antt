@@ -1,5 +1,4 @@
--- The laws that several proofs cite, the bounds of every answer, and its word.
+-- The laws that several proofs cite, and the bounds of every answer.
 pub mod DigitBytes
 pub mod Laws
 pub mod Bounds
-pub mod WordLaws

@@ -1,5 +1,5 @@
 -- What the unsigned reader answers, in the paper's order: spaces, the form of the number, its digits, its value.
-use Rattle.std.specs.Prelude.{ℕ, ◌+◌, ◌-◌, ◌*◌, Bool, cond, ◌&&◌, ◌||◌, List, [], ◌∷◌, length, drop, ◌==◌, nat_lt, slice_index}
+use Rattle.std.specs.Prelude.{Bool, cond, ◌&&◌, ◌||◌, List, [], ◌∷◌, ℕ, ◌+◌, ◌-◌, ◌*◌, ltb, eqb, length, get_or, drop}
 use Rattle.paper.specs.Refusals.{no_digit, bad_base, too_big, not_ended, over_limit, over_length, longest}
 use Rattle.paper.specs.Bytes.{spaces, among}
 use Rattle.reader.specs.declared.Reading.{Reading}
@@ -12,7 +12,7 @@ digit c = cond (among 48 57 c) (c - 48) (cond (among 65 90 c) (c - 55) (cond (am
 -- the digits of a base that a text starts with, up to the first byte that is none
 abbrev pub run : ℕ → List ℕ → List ℕ
 run base [] = []
-run base (x ∷ xs) = cond (nat_lt (digit x) base) (digit x ∷ run base xs) []
+run base (x ∷ xs) = cond (ltb (digit x) base) (digit x ∷ run base xs) []
 
 -- what digits are worth behind a number of them already read
 abbrev pub worth : ℕ → ℕ → List ℕ → ℕ
@@ -28,7 +28,7 @@ valued value end = Value (record { value = value; end = record { 0 = end } })
 -- a byte at `end` that a whole number may not stand before. Behind the slice's end stands a zero here, which ends the number as
 -- the slice's end does
 abbrev pub goes_on : List ℕ → Bool → ℕ → Bool
-goes_on text whole end = whole && nat_lt 32 (slice_index text end)
+goes_on text whole end = whole && ltb 32 (get_or text end 0)
 
 -- the limit that refuses nothing
 abbrev pub no_limit : ℕ
@@ -37,10 +37,10 @@ no_limit = 4294967295
 -- digits read from the place `first` up to `end`, and what they are worth; the number's start has the places of 4 and 6
 unfoldable pub judged : List ℕ → Bool → ℕ → ℕ → ℕ → ℕ → ℕ → Reading
 judged text whole limit start first end value =
-    cond (end == first) (refused no_digit first)
-    (cond (nat_lt 4294967295 value) (refused too_big start)
+    cond (eqb end first) (refused no_digit first)
+    (cond (ltb 4294967295 value) (refused too_big start)
     (cond (goes_on text whole end) (refused not_ended end)
-    (cond (nat_lt limit value) (refused over_limit start)
+    (cond (ltb limit value) (refused over_limit start)
     (valued value end))))
 
 -- digits of a base, from the place `first` on
@@ -53,11 +53,11 @@ based text whole limit start first base =
 unfoldable pub in_base : List ℕ → Bool → ℕ → ℕ → ℕ → ℕ → Reading
 in_base text whole limit start first base =
     let digits = based text whole limit start first base in
-    cond (nat_lt base 2 || nat_lt 36 base) (refused bad_base start) digits
+    cond (ltb base 2 || ltb 36 base) (refused bad_base start) digits
 
 -- a digit at least from `start` up to `mark`, and "_" directly behind
 abbrev pub marked : List ℕ → ℕ → ℕ → Bool
-marked text start mark = nat_lt start mark && slice_index text mark == 95
+marked text start mark = ltb start mark && eqb (get_or text mark 0) 95
 
 -- behind the spaces: "&" and hex digits; or decimal digits, "_" and digits of that base; or decimal digits
 unfoldable pub numbered : List ℕ → Bool → ℕ → ℕ → Reading
@@ -67,12 +67,12 @@ numbered text whole limit start =
     let hex = based text whole limit start (start + 1) 16 in
     let other = in_base text whole limit start (mark + 1) (worth 10 0 lead) in
     let decimal = based text whole limit start start 10 in
-    cond (slice_index text start == 38) hex (cond (marked text start mark) other decimal)
+    cond (eqb (get_or text start 0) 38) hex (cond (marked text start mark) other decimal)
 
 unfoldable pub reading : List ℕ → Bool → ℕ → Reading
 reading text whole limit =
     let number = numbered text whole limit (spaces text) in
-    cond (nat_lt longest (length text)) (refused over_length 0) number
+    cond (ltb longest (length text)) (refused over_length 0) number
 
 -- the paper's numbers for an answer: the refusal's number, 0 where a value was read; the place; the value, 0 where refused
 abbrev pub read_number : Reading → ℕ

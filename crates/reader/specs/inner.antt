@@ -1,3 +1,2 @@
 -- What only inner functions' contracts cite.
 pub mod Steps
-pub mod Words

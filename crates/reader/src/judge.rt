@@ -1,19 +1,19 @@
-// What a run of digits comes to, as a word: its value, or the first refusal that it meets.
-ghost use Rattle.std.specs.Prelude.{◌≡◌, ◌≤◌, length};
+// What a run of digits comes to: its value, or the first refusal that it meets.
+ghost use Rattle.std.specs.Prelude.{◌≡◌};
 ghost use Rattle.reader.specs.Reading.{refused, goes_on, judged};
-ghost use Rattle.reader.specs.inner.Steps.{Inside};
-ghost use Rattle.reader.specs.inner.Words.{word_of};
 
 use crate::digits::Run;
-use crate::words::word;
+use crate::{Number, Reading};
 use paper::bytes::byte;
-use paper::{NO_DIGIT, NOT_ENDED, OVER_LIMIT, TOO_BIG};
+use paper::{NO_DIGIT, NOT_ENDED, OVER_LIMIT, TOO_BIG, TextPlace};
 
-pub(crate) fn refused(number: u8, at: usize) -> u64
-    requires { at ≤ 65535 }
-    ensures { result ≡ word_of (refused number at) }
+pub(crate) fn refused(number: u8, at: usize) -> Reading
+    ensures { result ≡ refused number at }
 {
-    word(number, at, 0)
+    Reading::Refused {
+        number,
+        at: TextPlace(at),
+    }
 }
 
 // Whether a whole number is wanted and the byte at `end` does not end one.
@@ -31,9 +31,8 @@ pub(crate) fn judge(
     start: usize,
     first: usize,
     run: Run,
-) -> u64
-    requires { Inside text.now start first × (run.end ≤ length text.now) }
-    ensures { result ≡ word_of (judged text.now whole limit start first run.end run.value) }
+) -> Reading
+    ensures { result ≡ judged text.now whole limit start first run.end run.value }
 {
     let end = run.end;
     if end == first {
@@ -49,5 +48,8 @@ pub(crate) fn judge(
     if limit < value {
         return refused(OVER_LIMIT, start);
     }
-    word(0, end, value)
+    Reading::Value(Number {
+        value,
+        end: TextPlace(end),
+    })
 }

@@ -1,5 +1,6 @@
 -- `in_base` meets its contract: each return knows where the base stands against 2 and 36.
-use Rattle.std.proofs.Common.{arith, le-ltb, lt-ltb}
+use native.Mathlib.Omega.{arith}
+use borrow.Author.Tests.{lt-ltb, le-ltb}
 use Rattle.reader.specs.Reading.{in_base}
 use Rattle.reader.proofs.in_base.Goals as goal
 

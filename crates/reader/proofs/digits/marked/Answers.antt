@@ -1,5 +1,5 @@
 -- `marked` meets its contract.
-use Rattle.std.proofs.Common.{le-ltb, lt-ltb}
+use borrow.Author.Tests.{lt-ltb, le-ltb}
 use Rattle.reader.proofs.digits.marked.Goals as goal
 
 pub returns-then-start-mark : goal.returns-then-start-mark

@@ -1,4 +1,5 @@
 -- `goes_on` meets its contract.
+
 use Rattle.reader.proofs.judge.goes_on.Goals as goal
 
 pub returns-then-whole : goal.returns-then-whole

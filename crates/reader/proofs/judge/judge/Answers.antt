@@ -1,5 +1,7 @@
 -- `judge` meets its contract: each return knows the outcomes of the tests before it.
-use Rattle.std.proofs.Common.{sym, ◌∙◌, arith, le-ltb, lt-ltb, eq-eqb, ne_eqb}
+use mathlib.Core.Path.{sym, ◌∙◌}
+use native.Mathlib.Omega.{arith}
+use borrow.Author.Tests.{eq-eqb, ne_eqb, lt-ltb, le-ltb}
 use Rattle.reader.specs.Reading.{judged}
 use Rattle.reader.proofs.judge.judge.Goals as goal
 
@@ -17,31 +19,33 @@ returns-then-run-gt4294967295 c =
 pub returns-then-goes_on : goal.returns-then-goes_on
 unfolding judged
 returns-then-goes_on c =
+    let on = c.before.before in
     rw (
       c.refused-then-goes_on.ensures,
-      ne_eqb _ _ c.if-end-first.false,
-      le-ltb _ _ c.if-run-gt4294967295.false,
-      sym c.goes_on.ensures ∙ c.if-goes_on.true,
+      ne_eqb _ _ on.if-end-first.false,
+      le-ltb _ _ on.if-run-gt4294967295.false,
+      sym on.goes_on.ensures ∙ c.if-goes_on.true,
     )
 
 pub returns-then-limit-value : goal.returns-then-limit-value
 unfolding judged
 returns-then-limit-value c =
+    let on = c.before.before.before.before in
     rw (
       c.refused-then-limit-value.ensures,
-      ne_eqb _ _ c.if-end-first.false,
-      le-ltb _ _ c.if-run-gt4294967295.false,
-      sym c.goes_on.ensures ∙ c.if-goes_on.false,
+      ne_eqb _ _ on.if-end-first.false,
+      le-ltb _ _ on.if-run-gt4294967295.false,
+      sym on.goes_on.ensures ∙ c.if-goes_on.false,
       lt-ltb _ _ c.if-limit-value.true,
     )
 
 pub returns : goal.returns
 unfolding judged
 returns c =
+    let on = c.before.before.before in
     rw (
-      c.word.ensures,
-      ne_eqb _ _ c.if-end-first.false,
-      le-ltb _ _ c.if-run-gt4294967295.false,
-      sym c.goes_on.ensures ∙ c.if-goes_on.false,
+      ne_eqb _ _ on.if-end-first.false,
+      le-ltb _ _ on.if-run-gt4294967295.false,
+      sym on.goes_on.ensures ∙ c.if-goes_on.false,
       le-ltb _ _ c.if-limit-value.false,
     )
