@@ -1,5 +1,5 @@
 -- Stretches one behind the other, and the run that a stretch is which cannot be longer.
-use mathlib.Core.Path.{◌≡◌, subst, sym, ap, ◌∙◌}
+use mathlib.Core.Path.{◌≡◌, subst}
 use mathlib.Core.Bool.{Bool, true, false}
 use mathlib.Core.List.{List}
 use Prim.Native.Nat.{ℕ, zero, suc, ◌+◌, ◌-◌, ◌≤◌, ◌<◌}

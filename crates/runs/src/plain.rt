@@ -22,7 +22,7 @@ fn hit(a: u8, b: u8) -> u8
 
 // The byte that ends a run besides those that always do. The zero, which does so anyway, stands for none.
 fn also_ends(spaces_end: bool) -> u8
-    ensures { (result ≡ also_ends spaces_end) × (result ≤ 60) }
+    ensures { result ≡ also_ends spaces_end }
 {
     if spaces_end { b' ' } else { 0 }
 }
@@ -42,14 +42,10 @@ fn is_marked(c: u8) -> bool
     is_end(c) || (c == b'"' || (c == b'<' || c == b'|'))
 }
 
-// Whether a byte ends no run. Most bytes are letters, and of what ends a run only "|" stands among those.
+// Whether a byte ends no run.
 fn is_plain(c: u8, also: u8) -> bool
-    requires { also ≤ 60 }
     ensures { result ≡ plain_byte also c }
 {
-    if b'<' < c {
-        return c != b'|';
-    }
     if is_marked(c) {
         return false;
     }
@@ -57,6 +53,7 @@ fn is_plain(c: u8, also: u8) -> bool
 }
 
 // 0 where no byte of a block ends a run.
+#[tactic(auto, using(crate::proofs::StretchLaws::stretch_none, crate::proofs::StretchLaws::stretch_next))]
 fn weight(text: &[u8], at: usize, also: u8) -> u8
     requires { at + 16 ≤ length text.now }
     ensures { result ≡ 0 → Stretch (plain_byte also) text.now at (at + 16) }
@@ -71,6 +68,7 @@ fn weight(text: &[u8], at: usize, also: u8) -> u8
 }
 
 // The end of the whole blocks from `start` on in which no byte ends a run.
+#[tactic(auto, using(crate::proofs::StretchLaws::stretch_none, crate::proofs::StretchLaws::stretch_more))]
 fn blocks_end(text: &[u8], start: usize, also: u8) -> usize
     requires { start ≤ length text.now }
     ensures { Stretch (plain_byte also) text.now start result }
@@ -86,8 +84,9 @@ fn blocks_end(text: &[u8], start: usize, also: u8) -> usize
 }
 
 // The end of the bytes from `start` up to `stop` that end no run, one by one.
+#[tactic(auto, using(crate::proofs::StretchLaws::stretch_none, crate::proofs::StretchLaws::stretch_next))]
 fn bytes_end(text: &[u8], start: usize, stop: usize, also: u8) -> usize
-    requires { (start ≤ stop) × (stop ≤ length text.now) × (also ≤ 60) }
+    requires { (start ≤ stop) × (stop ≤ length text.now) }
     ensures run { Stretch (plain_byte also) text.now start result }
     ensures end { (result < stop → plain_byte also (get_or text.now result 0) ≡ false) × (result ≤ stop) }
 {
@@ -101,9 +100,21 @@ fn bytes_end(text: &[u8], start: usize, stop: usize, also: u8) -> usize
     at
 }
 
+// The first place behind the bytes from `start` on that are looked at one by one, or the text's end where that is nearer.
+fn block_behind(length: usize, start: usize) -> usize
+    requires { start ≤ length }
+    ensures { (start ≤ result) × (result ≤ length) }
+{
+    if length - start < NEAR {
+        length
+    } else {
+        start + NEAR
+    }
+}
+
 // The end of a run of bytes from `start` on that stand for themselves in every text, spaces only where they do not end it. The
-// first bytes are looked at one by one: where marks are close together, a block's sum would be taken in vain. They are of a fixed number
-// where the text has so many, so that the compiler makes no loop of them. From the text's end on there is no run.
+// first bytes are looked at one by one: where marks are close together, a block's sum would be taken in vain. From the text's end
+// on there is none.
 pub fn plain_end(text: &[u8], start: usize, spaces_end: bool) -> usize
     ensures { result ≡ start + run_of (plain_byte (also_ends spaces_end)) (drop start text.now) }
 {
@@ -111,10 +122,7 @@ pub fn plain_end(text: &[u8], start: usize, spaces_end: bool) -> usize
         return start;
     }
     let also = also_ends(spaces_end);
-    if text.len() - start < NEAR {
-        return bytes_end(text, start, text.len(), also);
-    }
-    let near = start + NEAR;
+    let near = block_behind(text.len(), start);
     let at = bytes_end(text, start, near, also);
     if at < near {
         return at;

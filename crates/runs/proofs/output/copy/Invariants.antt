@@ -1,15 +1,8 @@
 -- `copy` meets its contract: where all bytes fit, the loop pastes one after the other.
-use mathlib.Core.Path.{◌≡◌, refl, ap, sym, ◌∙◌}
-use mathlib.Core.List.{List, ◌++◌}
-use Prim.Native.Nat.{ℕ, ◌+◌, ◌-◌, ◌≤◌, ◌<◌}
-use native.Mathlib.Numerals.{add-one}
-use native.Mathlib.Omega.{arith}
-use lib.ListN.{length, get_or, set, take, drop}
-use lib.Seq.{sets, sets-eq, paste, paste-zero, paste-suc, length-paste, take-length}
-use borrow.Author.Tests.{le-leb, lt-leb}
-use lib.Dec.{leb}
-use Rattle.paper.proofs.Choice.{hit, skip}
-use Rattle.runs.specs.Output.{laid_at}
+use mathlib.Core.Path.{◌≡◌}
+use Prim.Native.Nat.{◌+◌, ◌-◌, ◌≤◌}
+use lib.ListN.{length}
+use lib.Seq.{paste}
 use Rattle.runs.proofs.output.copy.Given as goal
 
 abbrev pub invariant-loop-i : goal.invariant-loop-i

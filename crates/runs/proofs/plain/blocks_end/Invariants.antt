@@ -1,11 +1,9 @@
 -- `blocks_end` meets its contract. The loop's invariant: no byte from the start up to here ends a run. The measure is what is left of
 -- the text.
 use Prim.Native.Nat.{◌-◌}
-use native.Mathlib.Omega.{arith}
 use lib.ListN.{length}
 use Rattle.runs.specs.Plain.{plain_byte}
 use Rattle.runs.specs.inner.Stretches.{Stretch}
-use Rattle.runs.proofs.StretchLaws.{stretch_none, stretch_more}
 use Rattle.runs.proofs.plain.blocks_end.Given as goal
 
 abbrev pub invariant-loop-at : goal.invariant-loop-at

@@ -1,15 +1,14 @@
 -- `plain_end` meets its contract: the single bytes, the blocks behind them and the single bytes behind those are stretches, one behind
 -- the other, up to a byte that ends the run.
-use mathlib.Core.Bool.{false, and-false}
+use mathlib.Core.Bool.{false}
 use mathlib.Core.List.{List}
-use mathlib.Core.Path.{◌≡◌, sym, subst, ap, ◌∙◌}
+use mathlib.Core.Path.{◌≡◌, ap, ◌∙◌}
 use Prim.Native.Nat.{ℕ, ◌+◌, ◌≤◌, ◌<◌}
 use native.Mathlib.Decide.{dec_lt}
 use native.Mathlib.Omega.{arith}
 use lib.ListN.{length, get_or, drop, get_or-eq_default}
 use Rattle.paper.specs.Bytes.{run_of}
-use Rattle.paper.proofs.Runs.{run_none}
-use Rattle.runs.specs.Plain.{also_ends, plain_byte}
+use Rattle.runs.specs.Plain.{plain_byte}
 use Rattle.runs.specs.inner.Stretches.{Stretch}
 use Rattle.runs.proofs.StretchLaws.{stretch_more, stretch_run}
 use Rattle.runs.proofs.plain.plain_end.Goals as goal
@@ -17,11 +16,6 @@ use Rattle.runs.proofs.plain.plain_end.Goals as goal
 -- the zero past the end is not plain
 past_end : (also : ℕ) (text : List ℕ) (at : ℕ) → length text ≤ at → plain_byte also (get_or text at 0) ≡ false
 past_end also text at h = ap (plain_byte also) (get_or-eq_default text 0 h)
-
-pub returns-then-text-start : goal.returns-then-text-start
-returns-then-text-start c =
-    let a = c.args in
-    omega (arith, run_none (plain_byte (also_ends a.spaces_end)) a.text.now a.start (past_end (also_ends a.spaces_end) a.text.now a.start c.if-text-start.true))
 
 -- a stretch up to a byte that is not plain, for the byte that also ends a run
 whole : (also also' : ℕ) (text : List ℕ) (start stop : ℕ) → also ≡ also' → Stretch (plain_byte also) text start stop
@@ -37,28 +31,19 @@ ended also text at stopped = go (dec_lt at (length text))
     go (yes h) = stopped h
     go (no h) = past_end also text at (omega (arith, h))
 
-pub returns-then-text-start-lt-NEAR : goal.returns-then-text-start-lt-NEAR
-returns-then-text-start-lt-NEAR c =
-    let found = c.bytes_end in
-    let s = c.before.before in
-    let a = s.args in
-    whole s.also_ends-also.result _ a.text.now a.start found.result s.also_ends-also.ensures.0 found.ensures.run
-    (ended s.also_ends-also.result a.text.now found.result found.ensures.end.0)
-
 pub returns-then-at-near : goal.returns-then-at-near
 returns-then-at-near c =
+    let a = c.args in
+    let also = c.also_ends-also in
     let found = c.bytes_end-at in
-    let s = c.before.before.before in
-    let a = s.args in
-    whole s.also_ends-also.result _ a.text.now a.start found.result s.also_ends-also.ensures.0 found.ensures.run (found.ensures.end.0 c.if-at-near.true)
+    whole also.result _ a.text.now a.start found.result also.ensures found.ensures.run (found.ensures.end.0 c.if-at-near.true)
 
 pub returns : goal.returns
 returns c =
-    let found = c.bytes_end-2 in
-    let near = c.before.before.before in
-    let s = near.before.before in
-    let a = s.args in
-    let more = stretch_more (plain_byte s.also_ends-also.result) a.text.now a.start in
-    whole s.also_ends-also.result _ a.text.now a.start found.result s.also_ends-also.ensures.0
-    (more _ _ (more _ _ near.bytes_end-at.ensures.run c.blocks_end-far.ensures) found.ensures.run)
-    (ended s.also_ends-also.result a.text.now found.result found.ensures.end.0)
+    let a = c.args in
+    let also = c.also_ends-also in
+    let found = c.bytes_end in
+    let more = stretch_more (plain_byte also.result) a.text.now a.start in
+    whole also.result _ a.text.now a.start found.result also.ensures
+    (more _ _ (more _ _ c.bytes_end-at.ensures.run c.blocks_end-far.ensures) found.ensures.run)
+    (ended also.result a.text.now found.result found.ensures.end.0)
