@@ -10,6 +10,7 @@ use paper::bytes::{among, byte, is_end};
 use paper::faults::Fault;
 
 // What a code that is no letter stands for; 256 where it is none.
+#[tactic(auto, unfolding(crate::specs::Symbols::punctuation))]
 fn punctuation(c: u8) -> u16
     ensures { result ≡ punctuation c }
 {
@@ -27,6 +28,7 @@ fn punctuation(c: u8) -> u16
 
 // From "@" up to "_" every byte is 64 over its code, so that the marks among them need no test of their own: the function is then small
 // enough to be compiled into both of its callers.
+#[tactic(auto, unfolding(crate::specs::Symbols::code, crate::specs::Symbols::punctuation))]
 fn code(c: u8) -> u16
     ensures { result ≡ code c }
 {
@@ -40,6 +42,7 @@ fn code(c: u8) -> u16
 }
 
 // What a code makes: its byte, or the fault of a symbol that stands at `at`.
+#[tactic(auto, unfolding(crate::specs::Symbols::coded))]
 fn coded(value: u16, at: usize, next: usize) -> Symbol
     ensures { result ≡ coded value at next }
 {
@@ -56,6 +59,7 @@ fn topped(c: u8) -> u8
 }
 
 // Behind "|!|": a code, and "!" has none.
+#[tactic(auto, using(crate::proofs::Laws::uncoded), unfolding(crate::specs::Symbols::topped_code))]
 fn topped_code(text: &[u8], at: usize) -> Symbol
     requires { at ≤ length text.now }
     ensures { result ≡ topped_code text.now at }
@@ -75,6 +79,7 @@ fn is_bare(flags: Flags, mode: Mode, c: u8) -> bool
 }
 
 // Behind "|!": a code, or an ordinary byte.
+#[tactic(auto, unfolding(crate::specs::Symbols::topped_symbol))]
 fn topped_symbol(text: &[u8], flags: Flags, mode: Mode, at: usize) -> Symbol
     requires { at ≤ length text.now }
     ensures { result ≡ topped_symbol text.now flags.0 mode at }
@@ -90,6 +95,7 @@ fn topped_symbol(text: &[u8], flags: Flags, mode: Mode, at: usize) -> Symbol
 }
 
 // The symbol of a "|" that stands at `at`.
+#[tactic(auto, unfolding(crate::specs::Symbols::barred))]
 pub(crate) fn barred(text: &[u8], flags: Flags, mode: Mode, at: usize) -> Symbol
     requires { at ≤ length text.now }
     ensures { result ≡ barred text.now flags.0 mode at }

@@ -19,6 +19,7 @@ pub struct Opening {
 }
 
 // The symbol of a "<" that stands at `at`.
+#[tactic(auto, unfolding(crate::specs::Symbols::referred))]
 fn referred(text: &[u8], at: usize) -> Symbol
     requires { at ≤ length text.now }
     ensures { result ≡ referred text.now at }
@@ -50,6 +51,7 @@ fn ended(ends: bool, at: usize) -> Symbol
 }
 
 // Behind the closing quote.
+#[tactic(auto, unfolding(crate::specs::Symbols::closed))]
 fn closed(text: &[u8], flags: Flags, behind: usize) -> Symbol
     ensures { result ≡ closed text.now flags.0 behind }
 {
@@ -61,6 +63,7 @@ fn closed(text: &[u8], flags: Flags, behind: usize) -> Symbol
 }
 
 // In a quoted string, a byte that is no end and starts neither a code nor a reference.
+#[tactic(auto, unfolding(crate::specs::Symbols::quoted_other))]
 fn quoted_other(text: &[u8], flags: Flags, at: usize) -> Symbol
     requires { at ≤ length text.now }
     ensures { result ≡ quoted_other text.now flags.0 at }
@@ -120,6 +123,7 @@ pub fn symbol_at(text: &[u8], flags: Flags, mode: Mode, at: usize) -> Symbol
 }
 
 // Leading spaces are skipped. A quote next opens a quoted string, unless a flag makes it ordinary.
+#[tactic(auto, unfolding(crate::specs::Symbols::first_at, crate::specs::Symbols::mode_of))]
 pub fn open(text: &[u8], flags: Flags) -> Opening
     ensures { (result.at ≡ first_at text.now flags.0) × (result.mode ≡ mode_of text.now flags.0) }
 {
