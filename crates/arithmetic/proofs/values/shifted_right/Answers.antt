@@ -16,12 +16,11 @@ complement false n m fits = refl
 pub returns-then-is_negative : goal.returns-then-is_negative
 unfolding shifted_right shifted_right_unsigned
 returns-then-is_negative c =
-    let n = c.before.before in
-    let v = n.args.v in
-    let by = n.args.by in
+    let v = c.args.v in
+    let by = c.args.by in
     ap (λ s. 4294967295 - s) c.shifted_right_unsigned.ensures
     ∙ if-negative (λ z. 4294967295 - shifted_right_unsigned (4294967295 - v) by ≡ shifted (ltb by 32) z (2 ^ by)) v
-    (sym n.is_negative.ensures ∙ c.if-is_negative.true)
+    (sym c.is_negative.ensures ∙ c.if-is_negative.true)
     (λ _. complement (ltb by 32) (4294967295 - v) (2 ^ by) (omega arith))
 
 itself : (small : Bool) (n m : ℕ) → n < 4294967296 → cond small (n / m) 0 ≡ shifted small (pos n) m
@@ -31,10 +30,9 @@ itself false n m fits = rw (le-ltb n 0 zero-le)
 pub returns : goal.returns
 unfolding shifted_right shifted_right_unsigned
 returns c =
-    let n = c.before.before in
-    let v = n.args.v in
-    let by = n.args.by in
+    let v = c.args.v in
+    let by = c.args.by in
     c.shifted_right_unsigned-2.ensures
     ∙ if-positive (λ z. shifted_right_unsigned v by ≡ shifted (ltb by 32) z (2 ^ by)) v
-    (sym n.is_negative.ensures ∙ c.if-is_negative.false)
+    (sym c.is_negative.ensures ∙ c.if-is_negative.false)
     (λ low. itself (ltb by 32) v (2 ^ by) (omega arith))

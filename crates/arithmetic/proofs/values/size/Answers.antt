@@ -7,13 +7,11 @@ use Rattle.arithmetic.proofs.values.size.Goals as goal
 pub returns-then-is_negative : goal.returns-then-is_negative
 unfolding difference
 returns-then-is_negative c =
-    let n = c.before.before in
-    let v = n.args.v in
+    let v = c.args.v in
     c.difference.ensures
-    ∙ if-negative (λ z. difference 0 v ≡ nat_abs z) v (sym n.is_negative.ensures ∙ c.if-is_negative.true) (λ high. omega arith)
+    ∙ if-negative (λ z. difference 0 v ≡ nat_abs z) v (sym c.is_negative.ensures ∙ c.if-is_negative.true) (λ high. omega arith)
 
 pub returns : goal.returns
 returns c =
-    let n = c.before in
-    let v = n.args.v in
-    if-positive (λ z. v ≡ nat_abs z) v (sym n.is_negative.ensures ∙ c.if-is_negative.false) (λ _. refl)
+    let v = c.args.v in
+    if-positive (λ z. v ≡ nat_abs z) v (sym c.is_negative.ensures ∙ c.if-is_negative.false) (λ _. refl)
