@@ -44,7 +44,7 @@ module _ (c a b : ℕ) where
           → cond z End (cond p (behind_percent a' b') (Copied c)) ≡ Copied d
       go true p q e = clash (cc)
       go false true true e = clash (cc)
-      go false true false e = clash (cc (names_field (pair a b), ap is_field e))
+      go false true false e = clash (cc (names_field (pair a b)))
       go false false q e = e
 
   percent : (b' : ℕ) → piece c a b ≡ Percent → piece c a b' ≡ Percent
@@ -54,7 +54,7 @@ module _ (c a b : ℕ) where
           → cond z End (cond p (cond q Percent (field_named (pair a b'))) (Copied c)) ≡ Percent
       go true p q e = clash (cc)
       go false true true e = refl
-      go false true false e = clash (cc (names_field (pair a b), ap is_field e))
+      go false true false e = clash (cc (names_field (pair a b)))
       go false false q e = clash (cc)
 
 -- pieces of a format that lie before a place, where it is cut off

@@ -104,6 +104,7 @@ fn weekday_name(weekday: u32) -> Glyphs
 
 impl Field {
     // The number that it shows, or that its name has among the months or the weekdays.
+    #[tactic(auto, unfolding(crate::specs::inner::Steps::number))]
     fn number(self, moment: Moment) -> u32
         ensures { result ≡ number self moment }
     {

@@ -22,6 +22,7 @@ pub enum Piece {
 }
 
 // The field that two characters name, the first being the high byte.
+#[tactic(auto, unfolding(crate::specs::Fields::field_named, crate::specs::Fields::date_field))]
 fn field_named(name: u32) -> Piece
     ensures { result ≡ field_named name }
 {

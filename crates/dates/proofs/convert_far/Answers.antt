@@ -1,11 +1,5 @@
 -- `convert_far` meets its contract: what was told of the format decides, and then the room.
-use mathlib.Core.Path.{◌≡◌, ap, sym, ◌∙◌}
-use mathlib.Core.List.{List}
-use Rattle.calendar.specs.declared.Moment.{Moment}
-use Rattle.paper.specs.Refusals.{bad_field}
-use Rattle.dates.specs.Formats.{layout_of, string}
-use Rattle.dates.specs.inner.Steps.{rendered}
-use Rattle.dates.specs.declared.render.Rendered.{Rendered}
+use mathlib.Core.Path.{sym, ◌∙◌}
 use Rattle.dates.proofs.Rendering.{bad_answer, good_answer, told_length}
 use Rattle.dates.proofs.convert_far.Goals as goal
 

@@ -10,7 +10,6 @@ use Rattle.calendar.specs.declared.Moment.{Moment}
 use Rattle.paper.specs.Layings.{laying, laid_in, converted_by}
 use Rattle.dates.specs.Formats.{layout_of, string}
 use Rattle.dates.specs.inner.Steps.{rendered}
-use Rattle.dates.specs.declared.render.Rendered.{Rendered}
 use Rattle.dates.specs.declared.render.Rendered.TheVariants.{Characters}
 use Rattle.dates.proofs.Rendering.{bad_answer, good_answer, told_length, at_start}
 use Rattle.dates.proofs.convert_near.Goals as goal

@@ -1,8 +1,6 @@
 -- `copy_out` meets its contract: the bytes are copied where the string's whole room could be claimed.
-use mathlib.Core.List.{List}
-use mathlib.Core.Path.{◌≡◌, sym}
-use Prim.Native.Nat.{ℕ}
-use lib.ListN.{length, take}
+use mathlib.Core.Path.{sym}
+use lib.ListN.{take}
 use lib.Seq.{length-take-le}
 use Rattle.paper.proofs.Claimed.{answers, fits, whole, kept}
 use Rattle.dates.proofs.Rendering.{laid_at_start}

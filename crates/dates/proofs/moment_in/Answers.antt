@@ -19,30 +19,22 @@ five (a ∷ b ∷ c ∷ d ∷ e ∷ []) h = omega arith
 five (a ∷ b ∷ c ∷ d ∷ e ∷ f ∷ l) h = absurd (omega arith)
 
 pub overflow_mul-low : goal.overflow_mul-low
-overflow_mul-low c = omega (arith, c.shared_slice_known-3-1.given 1)
+overflow_mul-low c = omega (arith, c.type_inv.time 1)
 
 pub overflow_add-low : goal.overflow_add-low
-overflow_add-low c =
-    let below = c.shared_slice_known-3-1.given in
-    omega (arith, below 0, below 1)
+overflow_add-low c = omega (arith, c.type_inv.time 0, c.type_inv.time 1)
 
 pub overflow_mul-low-2 : goal.overflow_mul-low-2
-overflow_mul-low-2 c = omega (arith, c.shared_slice_known-4-1.given 2)
+overflow_mul-low-2 c = omega (arith, c.type_inv.time 2)
 
 pub overflow_add-low-2 : goal.overflow_add-low-2
-overflow_add-low-2 c =
-    let below = c.shared_slice_known-4-1.given in
-    omega (arith, below 0, below 1, below 2)
+overflow_add-low-2 c = omega (arith, c.type_inv.time 0, c.type_inv.time 1, c.type_inv.time 2)
 
 pub overflow_mul-low-3 : goal.overflow_mul-low-3
-overflow_mul-low-3 c = omega (arith, c.shared_slice_known-5-1.given 3)
+overflow_mul-low-3 c = omega (arith, c.type_inv.time 3)
 
 pub overflow_add-low-3 : goal.overflow_add-low-3
-overflow_add-low-3 c =
-    let below = c.shared_slice_known-5-1.given in
-    omega (arith, below 0, below 1, below 2, below 3)
+overflow_add-low-3 c = omega (arith, c.type_inv.time 0, c.type_inv.time 1, c.type_inv.time 2, c.type_inv.time 3)
 
 pub returns : goal.returns
-returns c =
-    let start = c.before.before.before.before.before.before.before.before.before.before.before in
-    c.moment_of.ensures ∙ ap moment_at (omega (arith, five start.args.time.now start.requires))
+returns c = c.moment_of.ensures ∙ ap moment_at (omega (arith, five c.args.time.now c.requires))

@@ -1,7 +1,6 @@
 -- `write_out` meets its contract: the characters are written where the string's whole room could be claimed.
-use mathlib.Core.List.{List}
-use mathlib.Core.Path.{◌≡◌, sym, ◌∙◌}
-use Prim.Native.Nat.{ℕ, suc}
+use mathlib.Core.Path.{sym, ◌∙◌}
+use Prim.Native.Nat.{suc}
 use native.Mathlib.Omega.{arith}
 use lib.ListN.{length}
 use Rattle.paper.proofs.Claimed.{answers, fits, whole, kept}

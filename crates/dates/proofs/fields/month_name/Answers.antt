@@ -8,8 +8,6 @@ use Rattle.dates.proofs.fields.month_name.Goals as goal
 
 pub returns-in_default : goal.returns-in_default
 returns-in_default c =
-    let r = c.in_default.in_default-own.rest in
     let month = c.args.month in
-    let half : 7 ≤ month = omega (arith, c.requires, r.0.0.0.0.0.0.0.0.0.0.0.1, r.0.0.0.0.0.0.0.0.0.0.1, r.0.0.0.0.0.0.0.0.0.1, r.0.0.0.0.0.0.0.0.1, r.0.0.0.0.0.0.0.1, r.0.0.0.0.0.0.1) in
-    let more : 13 ≤ month = omega (arith, half, r.0.0.0.0.0.1, r.0.0.0.0.1, r.0.0.0.1, r.0.0.1, r.0.1, r.1) in
+    let more : 13 ≤ month = omega arith in
     c.name-in_default.ensures ∙ sym (unnamed month_names (month - 1) (omega arith))

@@ -8,8 +8,6 @@ use Rattle.dates.proofs.fields.weekday_name.Goals as goal
 
 pub returns-in_default : goal.returns-in_default
 returns-in_default c =
-    let r = c.in_default.in_default-own.rest in
     let weekday = c.args.weekday in
-    let half : 4 ≤ weekday = omega (arith, r.0.0.0.0.0.0.1, r.0.0.0.0.0.1, r.0.0.0.0.1, r.0.0.0.1) in
-    let more : 7 ≤ weekday = omega (arith, half, r.0.0.1, r.0.1, r.1) in
+    let more : 7 ≤ weekday = omega arith in
     c.name-in_default.ensures ∙ sym (unnamed weekday_names weekday (omega arith))

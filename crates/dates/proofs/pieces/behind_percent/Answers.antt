@@ -11,7 +11,6 @@ returns-then-a-eq37 c = same c.args.a 37 _ _ c.if-a-eq37.true refl
 
 pub returns : goal.returns
 returns c =
-    let left = c.before.before.before in
-    let a = left.args in
+    let a = c.args in
     let name : 256 * c.wide.result + c.wide-2.result ≡ pair a.a a.b = omega arith in
-    other a.a 37 _ _ left.if-a-eq37.false (c.field_named.ensures ∙ ap field_named name)
+    other a.a 37 _ _ c.if-a-eq37.false (c.field_named.ensures ∙ ap field_named name)

@@ -1,66 +1,51 @@
 -- `field_named` meets its contract: its arms are the definition's tests, in the same order.
-use mathlib.Core.Path.{ap, refl, sym}
+use mathlib.Core.Path.{◌≡◌, refl}
+use Prim.Native.Nat.{ℕ}
+use native.Mathlib.Omega.{arith}
 use Rattle.paper.proofs.Choice.{other}
-use Rattle.dates.specs.Fields.{date_field, field_named}
+use Rattle.dates.specs.Fields.{name, date_field, field_named}
+use Rattle.dates.specs.declared.pieces.Piece.TheVariants.{Bad}
 use Rattle.dates.proofs.pieces.field_named.Goals as goal
 
-pub returns-in-17235 : goal.returns-in-17235
+-- a number that is no name
+none : (n : ℕ)
+    → (n ≡ name "CS" → ⊥)
+    → (n ≡ name "SE" → ⊥)
+    → (n ≡ name "MI" → ⊥)
+    → (n ≡ name "24" → ⊥)
+    → (n ≡ name "DY" → ⊥)
+    → (n ≡ name "MN" → ⊥)
+    → (n ≡ name "M3" → ⊥)
+    → (n ≡ name "CE" → ⊥)
+    → (n ≡ name "YR" → ⊥)
+    → (n ≡ name "DN" → ⊥)
+    → (n ≡ name "W3" → ⊥)
+    → Bad ≡ field_named n
 unfolding field_named date_field
-returns-in-17235 c = sym (ap field_named c.in-17235.is)
+none n a b c d e f g h i j k =
+    other _ _ _ _ a
+    (other _ _ _ _ b
+    (other _ _ _ _ c
+    (other _ _ _ _ d
+    (other _ _ _ _ e
+    (other _ _ _ _ f
+    (other _ _ _ _ g
+    (other _ _ _ _ h
+    (other _ _ _ _ i
+    (other _ _ _ _ j
+    (other _ _ _ _ k refl))))))))))
 
-pub returns-in-21317 : goal.returns-in-21317
-unfolding field_named date_field
-returns-in-21317 c = sym (ap field_named c.in-21317.is)
-
-pub returns-in-19785 : goal.returns-in-19785
-unfolding field_named date_field
-returns-in-19785 c = sym (ap field_named c.in-19785.is)
-
-pub returns-in-12852 : goal.returns-in-12852
-unfolding field_named date_field
-returns-in-12852 c = sym (ap field_named c.in-12852.is)
-
-pub returns-in-17497 : goal.returns-in-17497
-unfolding field_named date_field
-returns-in-17497 c = sym (ap field_named c.in-17497.is)
-
-pub returns-in-19790 : goal.returns-in-19790
-unfolding field_named date_field
-returns-in-19790 c = sym (ap field_named c.in-19790.is)
-
-pub returns-in-19763 : goal.returns-in-19763
-unfolding field_named date_field
-returns-in-19763 c = sym (ap field_named c.in-19763.is)
-
-pub returns-in-17221 : goal.returns-in-17221
-unfolding field_named date_field
-returns-in-17221 c = sym (ap field_named c.in-17221.is)
-
-pub returns-in-22866 : goal.returns-in-22866
-unfolding field_named date_field
-returns-in-22866 c = sym (ap field_named c.in-22866.is)
-
-pub returns-in-17486 : goal.returns-in-17486
-unfolding field_named date_field
-returns-in-17486 c = sym (ap field_named c.in-17486.is)
-
-pub returns-in-22323 : goal.returns-in-22323
-unfolding field_named date_field
-returns-in-22323 c = sym (ap field_named c.in-22323.is)
-
--- a number that is no arm's
 pub returns-in_default : goal.returns-in_default
-unfolding field_named date_field
 returns-in_default c =
-    let rest = c.in_default.in_default-own.rest in
-    other _ _ _ _ rest.0.0.0.0.0.0.0.0.0.0.1
-    (other _ _ _ _ rest.0.0.0.0.0.0.0.0.0.1
-    (other _ _ _ _ rest.0.0.0.0.0.0.0.0.1
-    (other _ _ _ _ rest.0.0.0.0.0.0.0.1
-    (other _ _ _ _ rest.0.0.0.0.0.0.1
-    (other _ _ _ _ rest.0.0.0.0.0.1
-    (other _ _ _ _ rest.0.0.0.0.1
-    (other _ _ _ _ rest.0.0.0.1
-    (other _ _ _ _ rest.0.0.1
-    (other _ _ _ _ rest.0.1
-    (other _ _ _ _ rest.1 refl))))))))))
+    none c.args.name
+    (λ e. omega arith)
+    (λ e. omega arith)
+    (λ e. omega arith)
+    (λ e. omega arith)
+    (λ e. omega arith)
+    (λ e. omega arith)
+    (λ e. omega arith)
+    (λ e. omega arith)
+    (λ e. omega arith)
+    (λ e. omega arith)
+    (λ e. omega arith)

@@ -1,9 +1,6 @@
 -- `blocks_end` meets its contract. The loop's invariant: no byte from the start up to here ends a run. The measure is what is left of
 -- the format.
-use Prim.Native.Nat.{◌-◌}
 use native.Mathlib.Omega.{arith}
-use lib.ListN.{length}
-use Rattle.runs.specs.inner.Stretches.{Stretch}
 use Rattle.runs.proofs.StretchLaws.{stretch_none, stretch_more}
 use Rattle.dates.specs.inner.Steps.{plain_byte}
 use Rattle.dates.proofs.plain.blocks_end.Goals as goal

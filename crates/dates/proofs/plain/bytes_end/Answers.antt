@@ -1,12 +1,9 @@
 -- `bytes_end` meets its contract. The loop's invariant: no byte from the start up to here ends a run. The measure is what is left up
 -- to `stop`.
 use mathlib.Core.Path.{sym, ◌∙◌}
-use Prim.Native.Nat.{◌-◌, ◌≤◌}
 use native.Mathlib.Omega.{arith}
-use Rattle.runs.specs.inner.Stretches.{Stretch}
 use Rattle.runs.proofs.StretchLaws.{stretch_none, stretch_next}
 use Rattle.dates.specs.inner.Steps.{plain_byte}
-use borrow.Author.Tests.{not-true, not-false}
 use Rattle.dates.proofs.plain.bytes_end.Goals as goal
 
 pub loop-at-init : goal.loop-at-init
@@ -16,14 +13,14 @@ pub loop-at-preserved : goal.loop-at-preserved
 loop-at-preserved c =
     let a = c.args in
     let l = c.loop-at in
-    (stretch_next plain_byte a.format.now a.start l.at _ l.invariant.0 (omega arith) (omega arith) (sym c.is_plain.ensures ∙ not-false _ c.if-not-is_plain.false-raw), omega arith)
+    (stretch_next plain_byte a.format.now a.start l.at _ l.invariant.0 (omega arith) (omega arith) (sym c.is_plain.ensures ∙ c.if-not-is_plain.false), omega arith)
 
 pub returns-then-not-is_plain : goal.returns-then-not-is_plain
 returns-then-not-is_plain c =
     let l = c.loop-at in
     record {
       run = l.invariant.0;
-      end = (λ _. sym c.is_plain.ensures ∙ not-true _ c.if-not-is_plain.true-raw, l.invariant.1);
+      end = (λ _. sym c.is_plain.ensures ∙ c.if-not-is_plain.true, l.invariant.1);
     }
 
 pub returns : goal.returns

@@ -1,12 +1,8 @@
 -- `bytes_end` meets its contract. The loop's invariant: no byte from the start up to here ends a run. The measure is what is left up
 -- to `stop`.
-use mathlib.Core.Path.{sym, ◌∙◌}
 use Prim.Native.Nat.{◌-◌, ◌≤◌}
-use native.Mathlib.Omega.{arith}
 use Rattle.runs.specs.inner.Stretches.{Stretch}
-use Rattle.runs.proofs.StretchLaws.{stretch_none, stretch_next}
 use Rattle.dates.specs.inner.Steps.{plain_byte}
-use borrow.Author.Tests.{not-true, not-false}
 use Rattle.dates.proofs.plain.bytes_end.Given as goal
 
 abbrev pub invariant-loop-at : goal.invariant-loop-at

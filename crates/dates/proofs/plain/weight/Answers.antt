@@ -1,7 +1,7 @@
 -- `weight` meets its contract. The loop's invariant: while the sum is 0, the bytes passed end no run; the sum grows by 3 at most.
 -- The measure is what is left of the block.
 use mathlib.Core.Path.{◌≡◌, subst}
-use Prim.Native.Nat.{◌+◌, ◌-◌, ◌*◌, ◌≤◌}
+use Prim.Native.Nat.{◌+◌}
 use native.Mathlib.Omega.{arith}
 use Rattle.runs.specs.inner.Stretches.{Stretch}
 use Rattle.runs.proofs.StretchLaws.{stretch_none, stretch_next}

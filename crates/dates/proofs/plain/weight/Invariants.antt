@@ -1,10 +1,8 @@
 -- `weight` meets its contract. The loop's invariant: while the sum is 0, the bytes passed end no run; the sum grows by 3 at most.
 -- The measure is what is left of the block.
-use mathlib.Core.Path.{◌≡◌, subst}
+use mathlib.Core.Path.{◌≡◌}
 use Prim.Native.Nat.{◌+◌, ◌-◌, ◌*◌, ◌≤◌}
-use native.Mathlib.Omega.{arith}
 use Rattle.runs.specs.inner.Stretches.{Stretch}
-use Rattle.runs.proofs.StretchLaws.{stretch_none, stretch_next}
 use Rattle.dates.specs.inner.Steps.{plain_byte}
 use Rattle.dates.proofs.plain.weight.Given as goal
 

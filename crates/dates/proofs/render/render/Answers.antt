@@ -2,7 +2,7 @@
 -- measure is what is left of the format.
 use mathlib.Core.List.{List}
 use mathlib.Core.Path.{◌≡◌, ap, sym, subst, ◌∙◌}
-use Prim.Native.Nat.{ℕ, ◌+◌, ◌-◌, ◌≤◌, ◌<◌}
+use Prim.Native.Nat.{ℕ, ◌+◌, ◌≤◌, ◌<◌}
 use native.Mathlib.Omega.{arith}
 use lib.ListN.{length, drop}
 use lib.Seq.{sets}
@@ -10,8 +10,7 @@ use Rattle.paper.specs.Bytes.{run_of}
 use Rattle.paper.proofs.Runs.{passed_within}
 use Rattle.dates.specs.Formats.{piece_at}
 use Rattle.dates.specs.inner.Steps.{plain_byte}
-use Rattle.dates.specs.declared.pieces.Piece.{Piece}
-use Rattle.dates.specs.declared.pieces.Piece.TheVariants.{Copied, Percent, Shown}
+use Rattle.dates.specs.declared.pieces.Piece.TheVariants.{Copied}
 use Rattle.dates.proofs.Layouts.{copied_inside, percent_inside, shown_inside}
 use Rattle.dates.proofs.Rendering.{Rendering, starts, ends, fails, copied, copied_run, runs_on, percent, field}
 use Rattle.dates.proofs.render.render.Goals as goal
