@@ -18,21 +18,15 @@ slice_bounds-give-end c =
     let string : List ℕ = decimal_of c.pattern_of.result in
     omega (arith, w.ensures.length.0, ap length w.ensures.buffer ∙ length-append string _)
 
--- the part of the digits that is lent is the decimal
-lent : (c : goal.After-signed_decimal-count)
-    → take (c.signed_decimal-count.result - 0) c.signed_decimal-count.new.1.0 ≡ decimal_of c.pattern_of.result
-lent c =
-    let w = c.signed_decimal-count in
-    let string : List ℕ = decimal_of c.pattern_of.result in
-    ap (λ m. take m w.new.1.0) (sub-zero w.result ∙ w.ensures.length.0)
-    ∙ ap (take (length string)) w.ensures.buffer
-    ∙ take-append_seam string _
-
 pub returns : goal.returns
 returns c name =
-    let g = c.before.before in
-    let w = g.before.before.before.before in
-    let a = w.args in
-    subst (λ bs. Came (λ rest. asks name (spends a.place (gives_all bs rest))) a.carried.left a.carried.to a.out.now g.give.new.1.1.1.0 g.give.result)
-    (lent w ∙ ap decimal_of w.pattern_of.ensures)
-    (g.give.ensures name)
+    let a = c.args in
+    let w = c.signed_decimal-count in
+    let string : List ℕ = decimal_of c.pattern_of.result in
+    -- the part of the digits that is lent is the decimal
+    let lent : take (w.result - 0) w.new.out ≡ string = ap (λ m. take m w.new.out) (sub-zero w.result ∙ w.ensures.length.0)
+    ∙ ap (take (length string)) w.ensures.buffer
+    ∙ take-append_seam string _ in
+    subst (λ bs. Came (λ rest. asks name (spends a.place (gives_all bs rest))) a.carried.left a.carried.to a.out.now c.give.new.out c.give.result)
+    (lent ∙ ap decimal_of c.pattern_of.ensures)
+    (c.give.ensures name)
