@@ -1,16 +1,16 @@
 -- The entries of an index as numbers: what an index that holds some records' places gives, and what halving comes to among names that rise.
-use mathlib.Core.Bool.{Bool, true, false, cond, false≢true}
+use mathlib.Core.Bool.{Bool, true, false}
 use mathlib.Core.List.Memᴰ.{head}
 use mathlib.Core.List.Memᴰ.{tail}
 use mathlib.Core.List.{List, [], ◌∷◌, ◌++◌, Memᴰ}
-use mathlib.Core.Path.{◌≡◌, refl, ap, ap₂, sym, subst, ◌∙◌}
+use mathlib.Core.Path.{◌≡◌, refl, ap₂, sym, subst, ◌∙◌}
 use Prim.Native.Nat.{ℕ, zero, suc, ◌+◌, ◌*◌, ◌-◌, ◌/◌, ◌%◌, ◌^◌, ◌<◌, ◌≤◌}
-use native.Mathlib.Decide.{dec_lt, ℕ_discrete}
+use native.Mathlib.Decide.{ℕ_discrete}
 use native.Mathlib.Omega.{arith}
-use borrow.Author.Tests.{lt-ltb, le-ltb, ltb-true, ltb-false}
+use borrow.Author.Tests.{ltb-true, ltb-false}
 use lib.Dec.{ltb}
-use lib.ListN.{length, get_or, take, drop}
-use Rattle.records.specs.Records.{Entry, same_name, comes_before}
+use lib.ListN.{length, get_or}
+use Rattle.records.specs.Records.{Entry, comes_before}
 use Rattle.records.proofs.Order.{through, not_before}
 use Rattle.indexes.specs.Indexes.{place_bytes}
 use Rattle.indexes.specs.inner.Halving.{place_in, name_in, nearest}

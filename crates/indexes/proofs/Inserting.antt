@@ -1,17 +1,16 @@
 -- One more entry in an index: at the place that halving finds the record stands where inserting puts it, and the bytes go with it.
 use mathlib.Core.Bool.{Bool, true, false, cond, false≢true}
-use mathlib.Core.List.{List, [], ◌∷◌, ◌++◌, append-nil, append_assoc}
-use mathlib.Core.Path.{◌≡◌, refl, ap, ap₂, sym, subst, ◌∙◌}
-use Prim.Native.Nat.{ℕ, zero, suc, ◌+◌, ◌*◌, ◌-◌, ◌/◌, ◌%◌, ◌<◌, ◌≤◌}
+use mathlib.Core.List.{List, [], ◌∷◌, ◌++◌, append_assoc}
+use mathlib.Core.Path.{◌≡◌, refl, ap, sym, subst, ◌∙◌}
+use Prim.Native.Nat.{ℕ, zero, suc, ◌+◌, ◌*◌, ◌/◌, ◌%◌, ◌<◌, ◌≤◌}
 use native.Mathlib.Decide.{dec_lt, ℕ_discrete}
 use native.Mathlib.Omega.{arith}
 use borrow.Author.Tests.{lt-ltb, le-ltb}
-use lib.Dec.{ltb}
 use lib.ListN.{length, get_or, take, drop, take-append-drop}
 use lib.Seq.{drop-append-add, take_at, drop_at, length-take-le}
 use Rattle.records.specs.Records.{Entry, name_at, entry_at, comes_before}
-use Rattle.indexes.specs.Indexes.{inserted, inserted_all, place_bytes}
-use Rattle.indexes.specs.inner.Halving.{name_in, nearest, slot_in, with_entry}
+use Rattle.indexes.specs.Indexes.{inserted, place_bytes}
+use Rattle.indexes.specs.inner.Halving.{name_in, slot_in, with_entry}
 use Rattle.indexes.proofs.Entries.{Rising, Near, halved, not_later_to}
 use Rattle.indexes.proofs.Searching.{Listed, name_in_lem, rising, bytes_long}
 use Rattle.indexes.proofs.Sorting.{Strict}

@@ -15,7 +15,7 @@ use Rattle.indexes.specs.Indexes.{inserted, inserted_all, place_bytes, index_of}
 use Rattle.indexes.specs.inner.Halving.{slot_in, with_entry}
 use Rattle.indexes.proofs.Inserting.{inserted_bytes}
 use Rattle.indexes.proofs.Searching.{Listed, bytes_long}
-use Rattle.indexes.proofs.Sorting.{Strict, strict_order, among_these, all_long}
+use Rattle.indexes.proofs.Sorting.{strict_order, among_these, all_long}
 
 -- the first records of some are pairwise unequal where all are
 front_apart : (es fs : List Entry) → Apart (es ++ fs) → Apart es

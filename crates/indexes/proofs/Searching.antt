@@ -5,7 +5,7 @@ use mathlib.Core.List.Memᴰ.{tail}
 use mathlib.Core.List.{List, [], ◌∷◌, ◌++◌, append-nil, Memᴰ}
 use mathlib.Core.Logic.{inl}
 use mathlib.Core.Path.{◌≡◌, refl, ap, sym, subst, ◌∙◌}
-use Prim.Native.Nat.{ℕ, zero, suc, ◌+◌, ◌*◌, ◌/◌, ◌<◌, ◌≤◌}
+use Prim.Native.Nat.{ℕ, zero, suc, ◌*◌, ◌<◌, ◌≤◌}
 use native.Mathlib.Decide.{dec_lt, ℕ_discrete}
 use native.Mathlib.Omega.{arith}
 use borrow.Author.Tests.{lt-ltb, le-ltb}
@@ -14,11 +14,11 @@ use lib.ListN.{length, get_or}
 use Rattle.records.specs.Records.{Entry, name_at, entry_at, same_name, comes_before}
 use Rattle.records.proofs.Equal.{symmetric}
 use Rattle.records.proofs.Order.{through, behind, unequal}
-use Rattle.variables.specs.Tables.{most, Sought, absent, present, records_of, sought_in}
+use Rattle.variables.specs.Tables.{most, absent, present, records_of, sought_in}
 use Rattle.variables.proofs.Chain.{starts}
 use Rattle.variables.proofs.Good.{Laid, wholes}
 use Rattle.variables.proofs.Unique.{own, apart, same_sought, unmet}
-use Rattle.indexes.specs.Indexes.{place_bytes, in_order, index_of, inserted_all}
+use Rattle.indexes.specs.Indexes.{place_bytes, in_order, index_of}
 use Rattle.indexes.specs.inner.Halving.{place_in, name_in, nearest, count_in, met_at, searched}
 use Rattle.indexes.proofs.Entries.{place_in_lem, Rising, Near, halved}
 use Rattle.indexes.proofs.Sorting.{Strict, nothing, first, strict_order, among_these, kept, all_long}

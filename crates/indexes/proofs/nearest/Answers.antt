@@ -7,7 +7,7 @@ use Prim.Native.Nat.{ℕ, zero, suc, ◌+◌, ◌-◌, ◌/◌, ◌^◌, ◌<◌
 use native.Mathlib.Omega.{arith}
 use borrow.Author.Tests.{lt-ltb, le-ltb}
 use Rattle.records.specs.Records.{name_at, comes_before}
-use Rattle.indexes.specs.inner.Halving.{halvings, place_in, name_in, nearest}
+use Rattle.indexes.specs.inner.Halving.{place_in, name_in, nearest}
 use Rattle.indexes.proofs.nearest.Goals as goal
 
 module _ (table index name : List ℕ) (first size : ℕ) where

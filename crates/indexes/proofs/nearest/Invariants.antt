@@ -1,13 +1,8 @@
 -- `nearest` meets its contract. The loop's invariant: with so many halvings left as its entries need, the search comes to what it comes to
 -- among these. The measure is their number.
-use mathlib.Core.Bool.{Bool, true, false}
-use mathlib.Core.List.{List}
-use mathlib.Core.Path.{◌≡◌, refl, ap, sym, ◌∙◌}
-use Prim.Native.Nat.{ℕ, zero, suc, ◌+◌, ◌-◌, ◌/◌, ◌^◌, ◌<◌, ◌≤◌}
-use native.Mathlib.Omega.{arith}
-use borrow.Author.Tests.{lt-ltb, le-ltb}
-use Rattle.records.specs.Records.{name_at, comes_before}
-use Rattle.indexes.specs.inner.Halving.{halvings, name_in, nearest}
+use mathlib.Core.Path.{◌≡◌}
+use Prim.Native.Nat.{ℕ, ◌+◌, ◌^◌, ◌<◌, ◌≤◌}
+use Rattle.indexes.specs.inner.Halving.{halvings, nearest}
 use Rattle.indexes.proofs.nearest.Given as goal
 
 abbrev pub invariant-loop-size : goal.invariant-loop-size

@@ -1,6 +1,6 @@
 -- `place_at` meets its contract: two bytes, the low byte first.
-use mathlib.Core.Path.{◌≡◌, ap₂}
-use Prim.Native.Nat.{ℕ, ◌+◌, ◌*◌}
+use mathlib.Core.Path.{ap₂}
+use Prim.Native.Nat.{◌+◌, ◌*◌}
 use native.Mathlib.Omega.{arith}
 use Rattle.indexes.specs.inner.Halving.{place_in}
 use Rattle.indexes.proofs.place_at.Goals as goal

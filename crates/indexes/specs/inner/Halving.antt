@@ -1,5 +1,5 @@
 -- The entries of an index, whatever its bytes are: the place that one holds, the search of a name by halving, and where one more is put.
-use Rattle.std.specs.Prelude.{cond, List, [], ◌∷◌, ◌++◌, ℕ, zero, suc, ◌+◌, ◌*◌, ◌-◌, ◌/◌, ◌%◌, ltb, length, get_or, take, drop}
+use Rattle.std.specs.Prelude.{cond, List, ◌∷◌, ◌++◌, ℕ, zero, suc, ◌+◌, ◌*◌, ◌-◌, ◌/◌, ◌%◌, ltb, length, get_or, take, drop}
 use Rattle.std.proofs.Math.Seq.{slice}
 use Rattle.paper.specs.declared.Holder.TheVariants.{House}
 use Rattle.records.specs.Records.{name_at, same_name, comes_before, entry_at}

@@ -1,13 +1,11 @@
 -- `insert` meets its contract: the two bytes stand in the gap.
 use mathlib.Core.List.{List, [], ◌∷◌, ◌++◌, append_assoc}
-use mathlib.Core.Path.{◌≡◌, refl, ap, ap₂, sym, ◌∙◌}
+use mathlib.Core.Path.{◌≡◌, ap, ap₂, sym, ◌∙◌}
 use Prim.Native.Nat.{ℕ, suc, ◌+◌, ◌*◌, ◌-◌, ◌/◌, ◌%◌, ◌≤◌}
-use native.Mathlib.Numerals.{add-one}
 use native.Mathlib.Omega.{arith}
-use lib.ListN.{length, get_or, take, drop, set, length-append}
+use lib.ListN.{length, get_or, take, set, length-append}
 use lib.Seq.{take-add, drop-cons, set_at, append_snoc, length-take-le, take_all, lt-length-set}
-use Rattle.records.specs.Records.{name_at}
-use Rattle.indexes.specs.inner.Halving.{slot_in, gap_in, with_entry}
+use Rattle.indexes.specs.inner.Halving.{slot_in, with_entry}
 use Rattle.indexes.proofs.building.insert.Goals as goal
 
 -- two bytes set at the end of a part

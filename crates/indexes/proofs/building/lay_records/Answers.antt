@@ -1,12 +1,10 @@
 -- `lay_records` meets its contract. The loop's invariant is how far the laying has come (`Laying`). The measure is what is left of the
 -- length.
-use mathlib.Core.Path.{◌≡◌, refl, ap, sym, subst, ◌∙◌}
-use mathlib.Core.List.{List}
-use Prim.Native.Nat.{ℕ, ◌+◌, ◌*◌, ◌-◌, ◌<◌, ◌≤◌}
+use mathlib.Core.Path.{refl, sym, subst}
+use Prim.Native.Nat.{◌+◌}
 use native.Mathlib.Omega.{arith}
-use lib.ListN.{length}
 use Rattle.records.specs.Records.{next_place}
-use Rattle.variables.proofs.Good.{Laid, laid}
+use Rattle.variables.proofs.Good.{laid}
 use Rattle.indexes.proofs.Laying.{Laying, laying_first, laying_next, laying_room, laying_last}
 use Rattle.indexes.proofs.building.lay_records.Goals as goal
 

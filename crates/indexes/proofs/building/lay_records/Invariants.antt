@@ -1,13 +1,9 @@
 -- `lay_records` meets its contract. The loop's invariant is how far the laying has come (`Laying`). The measure is what is left of the
 -- length.
-use mathlib.Core.Path.{◌≡◌, refl, ap, sym, subst, ◌∙◌}
-use mathlib.Core.List.{List}
-use Prim.Native.Nat.{ℕ, ◌+◌, ◌*◌, ◌-◌, ◌<◌, ◌≤◌}
-use native.Mathlib.Omega.{arith}
+use mathlib.Core.Path.{◌≡◌}
+use Prim.Native.Nat.{◌-◌, ◌≤◌}
 use lib.ListN.{length}
-use Rattle.records.specs.Records.{next_place}
-use Rattle.variables.proofs.Good.{Laid, laid}
-use Rattle.indexes.proofs.Laying.{Laying, laying_first, laying_next, laying_room, laying_last}
+use Rattle.indexes.proofs.Laying.{Laying}
 use Rattle.indexes.proofs.building.lay_records.Given as goal
 
 abbrev pub invariant-loop-place : goal.invariant-loop-place

@@ -1,10 +1,7 @@
 -- `open_gap` meets its contract. The loop's invariant: what stood behind there has gone up by two. The measure is what is left to go up.
-use mathlib.Core.List.{List, [], ◌∷◌, ◌++◌, append_assoc}
-use mathlib.Core.Path.{◌≡◌, refl, ap, ap₂, sym, subst, ◌∙◌}
-use Prim.Native.Nat.{ℕ, suc, ◌+◌, ◌-◌, ◌<◌, ◌≤◌}
-use native.Mathlib.Omega.{arith}
-use lib.ListN.{length, get_or, take, drop, set, take-append-drop, length-set, get_or-append}
-use lib.Seq.{slice, slice_empty, slice-cons, set-append_left, take-set-lt, take-suc-set, get_or-take, length-take-le}
+use mathlib.Core.Path.{◌≡◌}
+use Prim.Native.Nat.{◌+◌, ◌-◌, ◌≤◌}
+use lib.ListN.{length}
 use Rattle.indexes.specs.inner.Halving.{gap_in}
 use Rattle.indexes.proofs.building.open_gap.Given as goal
 
