@@ -1,12 +1,11 @@
 -- What is found of two tables and an index, with the lines that are laid, and that look-ups by these and by the index are those in the
 -- tables.
-use mathlib.Core.Bool.{Bool, true, false, cond, ◌&&◌, and-eq-true_iff, false≢true}
-use mathlib.Core.List.{List, [], ◌∷◌, ◌++◌, append-nil}
+use mathlib.Core.Bool.{Bool, true, false, and-eq-true_iff, false≢true}
+use mathlib.Core.List.{List, [], ◌++◌}
 use mathlib.Core.Path.{◌≡◌, refl, ap, ap₂, sym, subst, ◌∙◌}
-use Prim.Native.Nat.{ℕ, ◌≤◌}
+use Prim.Native.Nat.{ℕ}
 use native.Mathlib.Omega.{arith}
 use lib.ListN.{length}
-use Rattle.paper.specs.Refusals.{longest}
 use Rattle.paper.specs.declared.Holder.{Holder}
 use Rattle.paper.specs.declared.Holder.TheVariants.{Farm, House}
 use Rattle.paper.specs.declared.RecordPlace.{RecordPlace}
@@ -14,7 +13,7 @@ use Rattle.paper.proofs.Choice.{clash}
 use Rattle.records.specs.Records.{same_bytes}
 use Rattle.records.proofs.Equal.{bytes_same}
 use Rattle.variables.specs.Tables.{most, records_of, bad_table_at, scanned, checked, sought_in}
-use Rattle.variables.specs.Holdings.{held_in, or_else, sought_in_both}
+use Rattle.variables.specs.Holdings.{held_in, or_else}
 use Rattle.variables.specs.Judgements.{judged}
 use Rattle.variables.specs.inner.Keys.{lines_of as rows_of, laid_over, judged_lines, keys_of, sought_by}
 use Rattle.variables.specs.declared.Checked.{Checked}
@@ -23,14 +22,14 @@ use Rattle.variables.specs.declared.both.Judged.{Judged as OfTables}
 use Rattle.variables.specs.declared.both.Judged.TheVariants as Of
 use Rattle.variables.proofs.Chain.{none_left}
 use Rattle.variables.proofs.Good.{laid}
-use Rattle.variables.proofs.Judging.{Case, long_farm, long_house, bad_farm, bad_house, both_good, judged_case, judged_so, BothGood, both_are}
+use Rattle.variables.proofs.Judging.{Case, long_farm, long_house, bad_farm, bad_house, both_good, judged_case, judged_so, both_are}
 use Rattle.variables.proofs.KeysFind.{sought_by_keys}
 use Rattle.variables.proofs.Lines.{by_records, or_nowhere}
 use Rattle.indexes.specs.Indexes.{Given, no_index, given_index, index_of, fits}
 use Rattle.indexes.specs.inner.Halving.{searched}
 use Rattle.indexes.proofs.Searching.{search_same}
 use Rattle.lookups.specs.inner.Fitting.{is_good}
-use Rattle.lookups.specs.inner.Through.{serves, to_lay, bytes_given, lines_of, judged_by, sought_through, Leads}
+use Rattle.lookups.specs.inner.Through.{serves, to_lay, bytes_given, lines_of, judged_by, Leads}
 use Rattle.lookups.specs.declared.Judged.{Judged}
 use Rattle.lookups.specs.declared.Judged.TheVariants.{Good, BadTable, BadIndex}
 

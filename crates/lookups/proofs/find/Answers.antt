@@ -1,10 +1,7 @@
 -- `find` meets its contract: what the keys lead to, and where they lead to nothing, what the index leads to.
-use mathlib.Core.List.{List}
-use mathlib.Core.Path.{◌≡◌, sym, ◌∙◌}
-use Prim.Native.Nat.{ℕ}
+use mathlib.Core.Path.{sym, ◌∙◌}
 use Rattle.paper.specs.declared.Holder.TheVariants.{House}
-use Rattle.variables.specs.Tables.{Sought}
-use Rattle.variables.specs.Holdings.{Holding, held_in}
+use Rattle.variables.specs.Holdings.{held_in}
 use Rattle.variables.specs.inner.Keys.{sought_by}
 use Rattle.indexes.specs.inner.Halving.{searched}
 use Rattle.lookups.proofs.Handing.{by_keys, by_index}

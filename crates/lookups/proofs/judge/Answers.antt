@@ -1,6 +1,6 @@
 -- `judge` meets its contract, with an index and without.
 use mathlib.Core.Bool.{true}
-use mathlib.Core.Path.{◌≡◌, ap, ◌∙◌}
+use mathlib.Core.Path.{ap, ◌∙◌}
 use Rattle.lookups.specs.inner.Through.{lines_of, judged_by}
 use Rattle.lookups.proofs.judge.Goals as goal
 

@@ -1,9 +1,7 @@
 -- `judge_through` meets its contract: an index that serves leaves the judgement to the farm's table, and else both tables are checked.
-use mathlib.Core.Bool.{Bool, true, false}
-use mathlib.Core.Path.{◌≡◌, ap, sym, ◌∙◌}
-use mathlib.Core.List.{List}
-use Prim.Native.Nat.{ℕ}
-use Rattle.lookups.specs.inner.Through.{serves, lines_of, judged_by}
+use mathlib.Core.Bool.{true, false}
+use mathlib.Core.Path.{ap, sym, ◌∙◌}
+use Rattle.lookups.specs.inner.Through.{lines_of, judged_by}
 use Rattle.lookups.proofs.Judging.{served_answer, served_lines, unserved_answer, unserved_lines}
 use Rattle.lookups.proofs.judge_through.Goals as goal
 

@@ -5,11 +5,10 @@ use Prim.Native.Nat.{ℕ}
 use Rattle.variables.specs.Holdings.{Holding, nowhere, held, sought_in_both}
 use Rattle.variables.specs.inner.Keys.{match_as}
 use Rattle.variables.proofs.KeysFind.{keys_long, lines_inside, all_lines}
-use Rattle.indexes.specs.Indexes.{Given, given_by, fits}
+use Rattle.indexes.specs.Indexes.{given_by, fits}
 use Rattle.lookups.specs.Lookups.{found_as, found_by, looked_up}
 use Rattle.lookups.specs.inner.Through.{to_lay, Leads, in_good_tables}
-use Rattle.lookups.specs.declared.Judged.TheVariants as Judgement
-use Rattle.lookups.proofs.Judging.{Ready, ready, refused_table, refused_index}
+use Rattle.lookups.proofs.Judging.{ready, refused_table, refused_index}
 use Rattle.lookups.proofs.look_up.Goals as goal
 
 -- what a look-up by keys and an index hands out

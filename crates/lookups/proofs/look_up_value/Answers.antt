@@ -2,8 +2,7 @@
 use mathlib.Core.Path.{◌≡◌, ap, sym, ◌∙◌}
 use mathlib.Core.List.{List}
 use Prim.Native.Nat.{ℕ}
-use Rattle.indexes.specs.Indexes.{given_by}
-use Rattle.lookups.specs.Lookups.{value_part, looked_up}
+use Rattle.lookups.specs.Lookups.{value_part}
 use Rattle.lookups.specs.declared.Found.{Found}
 use Rattle.lookups.proofs.look_up_value.Goals as goal
 

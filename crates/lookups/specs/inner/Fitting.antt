@@ -1,5 +1,5 @@
 -- A table and an index beside it, judged together: marks of the places of records whose shapes are good, and entries that rise.
-use Rattle.std.specs.Prelude.{Bool, true, false, cond, List, [], ◌∷◌, ◌≡◌, ℕ, zero, suc, ◌+◌, ◌/◌, ◌%◌, ◌^◌, ◌<◌, ◌≤◌, eqb, leb, length, get_or, set}
+use Rattle.std.specs.Prelude.{Bool, true, false, cond, List, [], ◌∷◌, ◌≡◌, ℕ, zero, suc, ◌+◌, ◌/◌, ◌%◌, ◌^◌, ◌<◌, eqb, leb, length, get_or, set}
 use Rattle.std.specs.Int.Bits.{bit_or}
 use Rattle.records.specs.Records.{Entry, next_place, shaped, comes_before}
 use Rattle.variables.specs.Tables.{most}

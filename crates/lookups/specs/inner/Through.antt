@@ -1,7 +1,6 @@
 -- Two tables with or without an index beside the house's, as the code goes through them: the lines of keys that are laid, and look-ups by
 -- these and by the index.
-use Rattle.std.specs.Prelude.{Bool, true, false, cond, ◌&&◌, List, [], ◌∷◌, ◌≡◌, ℕ}
-use Rattle.paper.specs.Refusals.{too_long}
+use Rattle.std.specs.Prelude.{Bool, true, false, cond, ◌&&◌, List, [], ◌≡◌, ℕ}
 use Rattle.paper.specs.declared.Holder.TheVariants.{House}
 use Rattle.records.specs.Records.{same_bytes}
 use Rattle.variables.specs.Tables.{checked}

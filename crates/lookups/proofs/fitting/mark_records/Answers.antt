@@ -9,9 +9,9 @@ use native.Mathlib.Omega.{arith}
 use borrow.Author.Tests.{le-leb, lt-leb, lt-ltb}
 use lib.ListN.{length}
 use Rattle.records.specs.Records.{next_place, shaped, entry_at}
-use Rattle.variables.specs.Tables.{most, entries, records_of}
+use Rattle.variables.specs.Tables.{most, entries}
 use Rattle.variables.proofs.Chain.{none_left}
-use Rattle.lookups.specs.inner.Fitting.{with_mark, with_marks, shaped_from, shaped_in}
+use Rattle.lookups.specs.inner.Fitting.{with_mark, with_marks, shaped_from}
 use Rattle.lookups.proofs.fitting.mark_records.Goals as goal
 
 module _ (table : List ℕ) (count place : ℕ) where

@@ -1,17 +1,10 @@
 -- `mark_records` meets its contract. The loop's invariant: the walk comes to what it comes to from there on, with what is left of 256 records,
 -- and the records from there on are still to be marked. The measure is what is left of the length.
-use mathlib.Core.Bool.{true, false}
-use mathlib.Core.List.{List}
-use mathlib.Core.Path.{◌≡◌, refl, sym, ◌∙◌}
-use Prim.Native.Nat.{ℕ, zero, suc, ◌+◌, ◌-◌, ◌<◌, ◌≤◌}
-use native.Mathlib.Numerals.{add-one}
-use native.Mathlib.Omega.{arith}
-use borrow.Author.Tests.{le-leb, lt-leb, lt-ltb}
+use mathlib.Core.Path.{◌≡◌}
+use Prim.Native.Nat.{◌-◌, ◌≤◌}
 use lib.ListN.{length}
-use Rattle.records.specs.Records.{next_place, shaped, entry_at}
 use Rattle.variables.specs.Tables.{most, entries, records_of}
-use Rattle.variables.proofs.Chain.{none_left}
-use Rattle.lookups.specs.inner.Fitting.{with_mark, with_marks, shaped_from, shaped_in}
+use Rattle.lookups.specs.inner.Fitting.{with_marks, shaped_from, shaped_in}
 use Rattle.lookups.proofs.fitting.mark_records.Given as goal
 
 abbrev pub invariant-loop-place : goal.invariant-loop-place

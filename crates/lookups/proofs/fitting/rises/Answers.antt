@@ -7,7 +7,6 @@ use Prim.Native.Nat.{ℕ, ◌+◌, ◌-◌, ◌<◌, ◌≤◌}
 use native.Mathlib.Decide.{dec_lt}
 use native.Mathlib.Omega.{arith}
 use borrow.Author.Count.{below_more}
-use borrow.Author.Tests.{not-true, not-false}
 use Rattle.records.specs.Records.{name_at, comes_before}
 use Rattle.indexes.specs.inner.Halving.{place_in, name_in}
 use Rattle.lookups.specs.inner.Fitting.{marked, Rises}
