@@ -1,3 +1,2 @@
 -- What the proofs of references share.
 pub mod Resolved
-pub mod ShortContents

@@ -1,3 +1,2 @@
 -- What a reference's content stands for.
 pub mod References
-pub mod inner

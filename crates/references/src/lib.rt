@@ -1,16 +1,17 @@
 // References: what a reference's content stands for, a number or a variable of the tables.
 #![tactic(auto)]
 
-ghost use Rattle.std.specs.Prelude.{◌≡◌};
+ghost use Rattle.std.specs.Prelude.{◌≡◌, cond, eqb};
+ghost use Rattle.paper.specs.Refusals.{«too_big»};
+ghost use Rattle.reader.specs.Reading.{read_number};
 ghost use Rattle.variables.specs.inner.Keys.{match_as};
 ghost use Rattle.lookups.specs.inner.Through.{sought_through};
 ghost use Rattle.references.specs.References.{kinded, matched_as, referred_by};
 ghost use Rattle.references.specs.declared.Referred.TheVariants as Referred;
 
-mod contents;
-
-use contents::{BIG, OVER_255, content_of};
 use indexes::search;
+use paper::{GREATEST_CODE, TOO_BIG};
+use reader::{NO_LIMIT, Reading};
 use records::Variable;
 use records::kinds::Kind;
 use variables::Match;
@@ -51,23 +52,36 @@ fn as_matched(m: Match) -> Referred
     }
 }
 
-// What a name leads to. What the keys lead to is taken here, and not by way of a function that looks at the index too: that would be a call and
-// a copy more for each reference.
+// The name path: a number that is too big is refused, and every other content is a name. What the keys lead to is taken here, and not by way
+// of a function that looks at the index too: that would be a call and a copy more for each reference.
 fn as_name<'a>(
+    number: u8,
     content: &[u8],
     farm: &'a [u8],
     house: &'a [u8],
     keys: &[u32],
     index: &[u8],
 ) -> Referred
-    ensures { result ≡ matched_as (match_as farm.now house.now (sought_through farm.now house.now keys.now index.now content.now)) }
+    ensures { result ≡ cond (eqb number «too_big») Referred.TooBig (matched_as (match_as farm.now house.now (sought_through farm.now house.now keys.now index.now content.now))) }
 {
+    if number == TOO_BIG {
+        return Referred::TooBig;
+    }
     match find(farm, house, keys, content) {
         Match::Record(v) => {
             let kind = v.kind;
             by_kind(kind, v)
         }
         Match::Missing => as_matched(search(house, index, content)),
+    }
+}
+
+fn refusal_of(answer: Reading) -> u8
+    ensures { result ≡ read_number answer }
+{
+    match answer {
+        Reading::Value(_) => 0,
+        Reading::Refused { number, at: _ } => number,
     }
 }
 
@@ -82,15 +96,12 @@ pub fn resolve<'a>(
 ) -> Referred
     ensures { result ≡ referred_by farm.now house.now keys.now index.now content.now }
 {
-    let told = content_of(content);
-    if told <= 255 {
-        return Referred::Number(told as u8);
-    }
-    if told == OVER_255 {
+    let answer = reader::read_unsigned(content, true, NO_LIMIT);
+    let Reading::Value(n) = answer else {
+        return as_name(refusal_of(answer), content, farm, house, keys, index);
+    };
+    if n.value > GREATEST_CODE {
         return Referred::CodeOver255;
     }
-    if told == BIG {
-        return Referred::TooBig;
-    }
-    as_name(content, farm, house, keys, index)
+    Referred::Number(n.value as u8)
 }

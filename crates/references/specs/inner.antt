@@ -1,2 +1,0 @@
--- What only the contracts of inner functions cite.
-pub mod Contents
