@@ -3,64 +3,54 @@
 # wait. None of these functions reads standard input, and make_by and make_archive write nothing to standard output.
 # shellcheck shell=bash
 
-. scripts/native.sh
-
 archive=target/staticlib/libnosgoludd.a
+# shellcheck disable=SC2034 # for the scripts that source this
+native_library=target/native/libnosgoludd.a
 made=target/made
 
-# Sets `kit`, the toolchain's folder, and in it `tools` for this machine, with `clang`, which compiles the library.
+# Sets `clang`, the toolchain's own, which compiles the library.
 find_kit() {
     command -v rt >/dev/null || fail "rt, which proves the library and compiles it, is not on the PATH"
-    kit=${RATTLE_HOME:-$(dirname "$(dirname "$(readlink -f "$(command -v rt)")")")}
-    tools=$kit/on/$machine/toolchain
-    clang=$tools/bin/clang
-    [ -x "$clang" ] || fail "no clang in $tools/bin"
+    clang=$(dirname "$(rt doc)")/toolchain/bin/clang
+    [ -x "$clang" ] || fail "no $clang"
 }
 
-# is_made FILE: whether it is there, and nothing in the crates is newer than the start of its making. Folders count too: a file that
-# was removed shows in the time of its folder. Must-fail edits do not: nothing is made of them.
-is_made() {
-    local stamp=$made/${1##*/}
-    [ -f "$1" ] && [ -f "$stamp" ] && [ -z "$(find crates.txt crates -name must-fail -prune -o -newer "$stamp" -print -quit)" ]
-}
+# sources: a sum of all that a proof reads. Must-fail edits and what a program is run on are not among it: nothing is made of them.
+sources() { find crates.txt crates/*/src crates/*/specs crates/*/proofs -type f -exec sha256sum {} + | LC_ALL=C sort | sha256sum; }
 
-# crates_under NAME: how many crates are proved for this one, it among them: those that crates.txt names for it, and theirs.
+# stamp_of FILE: where the sum of what a file was made from is kept.
+stamp_of() { echo "$made/${1//\//.}"; }
+
+# is_made FILE: whether it is there, and was made from the crates as they are.
+is_made() { [ -f "$1" ] && [ -f "$(stamp_of "$1")" ] && [ "$(sources)" = "$(cat "$(stamp_of "$1")")" ]; }
+
+# crates_under NAME: the crates that are proved for this one, lowest first and it the last: those that crates.txt names for it, and theirs.
 crates_under() {
     awk -v top="$1" '
-        /^[^#]/ { name = $1; sub(/:$/, "", name); for (i = 2; i <= NF; i++) uses[name, $i] = 1; listed[name] = 1 }
+        /^[^#]/ {
+            name = $1; sub(/:$/, "", name); order[++listed] = name
+            for (i = 2; i <= NF; i++) uses[name, $i] = 1
+        }
         END {
             wanted[top] = 1
-            do {
-                before = count; count = 0
-                for (pair in uses) { split(pair, ends, SUBSEP); if (ends[1] in wanted && ends[2] in listed) wanted[ends[2]] = 1 }
-                for (name in wanted) count++
-            } while (count != before)
-            print count
+            for (k = listed; k >= 1; k--) if (order[k] in wanted) for (i = 1; i < k; i++) if ((order[k], order[i]) in uses) wanted[order[i]] = 1
+            for (i = 1; i <= listed; i++) if (order[i] in wanted) print order[i]
         }' crates.txt
 }
 
-# follow ALL: says, at each line of rt that has a crate proved, how far this is of ALL.
-follow() {
-    local count=0 all=$1 line name
-    while IFS= read -r line; do
-        case $line in
-        "rt: "*" proved (unchanged "*) count=$((count + 1)) ;;
-        "rt: "*" proved ("*)
-            count=$((count + 1)) name=${line#rt: }
-            tell "proved ${name%% *}, $count of $all"
-            ;;
-        esac
-    done
-}
-
-# run_rt FILE COMMAND..: runs a command of rt for a file, and writes what it says, which is kept beside the file's stamp too.
+# run_rt FILE CRATE WORD..: a command of rt in a crate's folder, for a file; what it says is kept beside the file's stamp. Answers whether
+# something was proved.
 run_rt() {
-    local log=$made/${1##*/}.log
-    shift
-    "$@" </dev/null 2>&1 | tee -a "$log" || fail "$* failed: $(tail -n 20 "$log")"
+    local log said crate=$2
+    log=$(stamp_of "$1").log said=$(stamp_of "$1").said
+    shift 2
+    (cd "crates/$crate" && rt "$@") </dev/null >"$said" 2>&1 || fail "rt $* in crates/$crate failed: $(tail -n 20 "$said")"
+    cat "$said" >>"$log"
+    grep -q '^logic=proved' "$said"
 }
 
-# make_by FILE CRATE COMMAND..: makes a file by a command of rt that proves a crate, where is_made says that it has to be.
+# make_by FILE CRATE LEFT WORD..: makes a file by a command of rt in a crate's folder, which leaves it in out/ under the name LEFT, where
+# is_made says that it has to be.
 make_by() { alone make_where_missing "$@"; }
 
 # alone COMMAND..: runs a command while no other script makes something.
@@ -72,27 +62,31 @@ alone() {
     } 9>"$made/lock"
 }
 
-# The crates under the one in question are proved first, since rt does so with as many at a time as the machine has cores.
+# The crates under the one in question are built one after the other, so that it can be said how far this is; rt uses several cores for each.
 make_where_missing() {
-    local file=$1 crate=$2 all stamp=$made/${1##*/} uses
-    shift 2
+    local file=$1 crate=$2 left=$3 stamp from all number
+    shift 3
     if is_made "$file"; then return; fi
     command -v rt >/dev/null || fail "rt, which proves the crates and makes $file, is not on the PATH"
-    all=$(crates_under "$crate")
-    tell "proving $all crates for $file; from nothing this takes some minutes"
+    stamp=$(stamp_of "$file") from=$(sources)
+    mapfile -t all < <(crates_under "$crate")
+    tell "proving ${#all[@]} crates for $file; from nothing this takes some minutes"
     rm -f "$stamp" "$stamp.log"
-    : >"$stamp.start"
-    read -ra uses < <(sed -n "s/^$crate: //p" crates.txt)
-    run_rt "$file" rt check "${uses[@]}" | follow "$all"
-    run_rt "$file" "$@" >/dev/null
-    [ -f "$file" ] || fail "$* made no $file: remove target/ and start again"
-    tell "proved $crate, $all of $all"
-    mv "$stamp.start" "$stamp"
+    for number in "${!all[@]}"; do
+        if [ "${all[number]}" = "$crate" ]; then
+            run_rt "$file" "$crate" "$@"
+        else
+            run_rt "$file" "${all[number]}" lib
+        fi && tell "proved ${all[number]}, $((number + 1)) of ${#all[@]}"
+    done
+    mkdir -p "${file%/*}"
+    cp "crates/$crate/out/$left" "$file.new"
+    mv "$file.new" "$file"
+    echo "$from" >"$stamp"
 }
 
-# The archive, x86-64 code. On another machine the LLVM module that it is compiled from is kept too: native.sh has the reason.
-make_archive() {
-    local keep=()
-    [ "$machine" = x86_64 ] || keep=(keep_module)
-    make_by "$archive" nosgoludd "${keep[@]}" rt staticlib nosgoludd
-}
+# The archive, code for every x86-64 processor: by itself rt takes one that has SSE4.
+make_archive() { make_by "$archive" nosgoludd_c libnosgoludd_c.a lib --cpu x86-64; }
+
+# The same proved library as code for an Arm machine.
+make_native() { make_by "$native_library" nosgoludd_c libnosgoludd_c.a lib --target aarch64-unknown-linux-gnu; }

@@ -1,11 +1,10 @@
 -- The line of a refusal.
-use Rattle.std.specs.Prelude.{List, [], ◌∷◌, ◌++◌, ℕ}
-use Rattle.io.specs.Digits.{last_digits}
-use Rattle.forms.specs.Digits.{digit_count}
+use Rattle.std.specs.Prelude.{false, List, [], ◌∷◌, ◌++◌, ℕ}
+use Rattle.forms.specs.Digits.{digits, digit_count}
 
 -- a number in decimal, with as many digits as it has
 unfoldable pub decimal : ℕ → List ℕ
-decimal n = last_digits 10 (digit_count 10 n) n
+decimal n = digits 10 false (digit_count 10 n) n
 
 -- "refused "
 abbrev pub refused : List ℕ

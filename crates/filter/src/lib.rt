@@ -1,13 +1,14 @@
 // From standard input to standard output: a text's translation, or a line that says why there is none.
 #![tactic(auto)]
-ghost use Rattle.std.specs.Prelude.{◌≡◌, ◌++◌, length, drop};
+
+ghost use Rattle.std.specs.Prelude.{◌≡◌, ◌++◌, ◌≤◌, length, drop};
 ghost use Rattle.filter.specs.Answers.{answer_to, Answered};
 
 mod lines;
 
 use gs::Translated;
-use libc::{STDERR_FILENO, STDIN_FILENO, STDOUT_FILENO};
 use paper::BAD_INDEX;
+use std::io::Read;
 use symbols::flags::Flags;
 
 // How many bytes the text has that was read, and how many its answer.
@@ -15,6 +16,13 @@ use symbols::flags::Flags;
 pub struct Lengths {
     pub text: usize,
     pub answer: usize,
+}
+
+// How many bytes of the input were read, and whether there is no more of it to read: a read that fails ends it early.
+#[derive(Clone, Copy)]
+struct Taken {
+    text: usize,
+    whole: bool,
 }
 
 // The answer to a text, at the start of `out`: its translation, or the line of its refusal. Both tables are empty, there is no index, no
@@ -56,41 +64,52 @@ pub fn answer(text: &[u8], out: &mut [u8; 65535]) -> usize
     }
 }
 
-// Whether there is nothing more to read. `io::read_full` stops at a read that fails as it does at the end.
-fn input_ended() -> bool {
-    let mut byte = [0; 1];
-    libc::read(STDIN_FILENO, &mut byte) == 0
+// Reads standard input to the start of a buffer, until it is full, the input ends or a read fails.
+fn take(rt: &impl Input, input: &mut [u8]) -> Taken
+    ensures { result.text ≤ length input.new }
+{
+    let mut reader = rt.reader();
+    let mut text = 0;
+    while text < input.len() {
+        match reader.read(&mut input[text..]) {
+            Ok(0) => return Taken { text, whole: true },
+            Ok(more) => text += more,
+            Err(_) => return Taken { text, whole: false },
+        }
+    }
+    Taken { text, whole: true }
 }
 
 // Writes the answer to a text that was read whole. A text that a failed read cut off gets no answer: nobody could tell it from a
-// whole one's. A program has no exit status to tell of it, so standard error does.
-fn send(whole: bool, answer: &[u8]) {
-    if !whole && !input_ended() {
-        io::write_all(
-            STDERR_FILENO,
-            b"translate: standard input failed, nothing was translated\n",
-        );
+// whole one's. The exit status does not tell of it, so standard error does.
+fn send(rt: &(impl Print + Eprint), whole: bool, answer: &[u8]) {
+    if !whole {
+        let _ = eprintln!(rt; "translate: standard input failed, nothing was translated");
         return;
     }
-    if !io::write_all(STDOUT_FILENO, answer) {
-        io::write_all(
-            STDERR_FILENO,
-            b"translate: standard output failed, the answer is cut\n",
-        );
+    if rt.write_all(answer).is_err() {
+        let _ = eprintln!(rt; "translate: standard output failed, the answer is cut");
     }
 }
 
 // Reads standard input and writes its answer to standard output. What `input` has no room for is not read: a text that
 // fills it is too long already. What is read and written this contract does not determine, as none can (docs/GAPS.md): it says
 // that `out` holds what `answer` makes of the start of `input`.
-pub fn run(input: &mut [u8; 65536], out: &mut [u8; 65535]) -> Lengths
+pub fn run(
+    rt: &(impl Input + Print + Eprint),
+    input: &mut [u8; 65536],
+    out: &mut [u8; 65535],
+) -> Lengths
     ensures { Answered input.new result.text out.old out.new result.answer }
 {
-    let text = io::read_full(STDIN_FILENO, input);
+    let taken = take(rt, input);
     // an array that is lent is lent on in part by way of a slice
     let read: &[u8] = input;
-    let answer = answer(&read[..text], out);
+    let answer = answer(&read[..taken.text], out);
     let written: &[u8] = out;
-    send(text == 65536, &written[..answer]);
-    Lengths { text, answer }
+    send(rt, taken.whole, &written[..answer]);
+    Lengths {
+        text: taken.text,
+        answer,
+    }
 }

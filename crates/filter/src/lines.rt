@@ -2,6 +2,7 @@
 ghost use Rattle.std.specs.Prelude.{◌≡◌, ◌++◌, ◌+◌, ◌≤◌, length, take, drop};
 ghost use Rattle.filter.specs.Lines.{decimal, refusal_line};
 
+use itoa::Buffer;
 use runs::output::copy;
 
 // "refused", the number, "at" and the place. What stands behind the line stays.
@@ -24,9 +25,8 @@ fn put_decimal(n: u64, at: usize, out: &mut [u8]) -> usize
     ensures next { result ≡ at + length (decimal n) }
     ensures buffer { out.new ≡ take at out.old ++ decimal n ++ drop result out.old }
 {
-    let mut digits = [0u8; 20];
-    let count = io::decimal(n, &mut digits);
-    put(&digits[..count], at, out)
+    let mut digits = Buffer::new();
+    put(digits.format(n).as_bytes(), at, out)
 }
 
 fn put(bytes: &[u8], at: usize, out: &mut [u8]) -> usize

@@ -37,8 +37,7 @@ fn face(answer: Built) -> NosAnswer
 }
 
 // The place is 0 but where the table is refused, and is then counted in it: the one table is the house's.
-#[unsafe(no_mangle)]
-pub extern "C" fn nos_build_index(table: &[u8], out: &mut [u8]) -> NosAnswer
+pub fn nos_build_index(table: &[u8], out: &mut [u8]) -> NosAnswer
     ensures answer { result ≡ answer_face (built_answer (built table.now (length out.old))) }
     ensures buffer { out.new ≡ index_after table.now out.old }
 {

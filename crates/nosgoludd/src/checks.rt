@@ -14,8 +14,7 @@ pub struct NosChecked {
     pub place: usize,
 }
 
-#[unsafe(no_mangle)]
-pub extern "C" fn nos_check_table(table: &[u8]) -> NosChecked
+pub fn nos_check_table(table: &[u8]) -> NosChecked
     ensures { result ≡ check_face (checked table.now) }
 {
     let answer = variables::check_table(table);

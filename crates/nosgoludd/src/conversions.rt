@@ -36,8 +36,7 @@ fn face(answer: Converted) -> NosAnswer
     }
 }
 
-#[unsafe(no_mangle)]
-pub extern "C" fn nos_convert(call: u32, value: u32, buf: &mut [u8]) -> NosAnswer
+pub fn nos_convert(call: u32, value: u32, buf: &mut [u8]) -> NosAnswer
     ensures answer { result ≡ answer_face (answer_of call value (length buf.old)) }
     ensures buffer { buf.new ≡ buffer_of call value buf.old }
 {
@@ -45,8 +44,7 @@ pub extern "C" fn nos_convert(call: u32, value: u32, buf: &mut [u8]) -> NosAnswe
 }
 
 // A five-byte time by a format. The place of a refusal is counted in the format.
-#[unsafe(no_mangle)]
-pub extern "C" fn nos_convert_date(time: &[u8], format: &[u8], buf: &mut [u8]) -> NosAnswer
+pub fn nos_convert_date(time: &[u8], format: &[u8], buf: &mut [u8]) -> NosAnswer
     ensures answer { result ≡ answer_face (date_answer time.now format.now (length buf.old)) }
     ensures buffer { buf.new ≡ date_buffer time.now format.now buf.old }
 {

@@ -43,13 +43,7 @@ fn face(answer: Evaluated) -> NosValue
     }
 }
 
-#[unsafe(no_mangle)]
-pub extern "C" fn nos_evaluate<'a>(
-    text: &[u8],
-    farm: &'a [u8],
-    house: &'a [u8],
-    allowance: u32,
-) -> NosValue
+pub fn nos_evaluate<'a>(text: &[u8], farm: &'a [u8], house: &'a [u8], allowance: u32) -> NosValue
     ensures { result ≡ evaluation_face (evaluated text.now farm.now house.now allowance) }
 {
     face(expressions::evaluate(text, farm, house, allowance))

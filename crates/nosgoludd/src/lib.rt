@@ -1,6 +1,7 @@
 // The C face: every operation answers by a struct with named fields, by value, so that a refusal writes nothing anywhere.
-// A field that says nothing in an answer is 0.
+// A field that says nothing in an answer is 0. C has the eight functions by crates/nosgoludd_c.
 #![tactic(auto)]
+
 ghost use Rattle.std.specs.Prelude.{◌≡◌};
 ghost use Rattle.paper.specs.Answers.{counted_in};
 

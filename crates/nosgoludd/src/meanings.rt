@@ -68,8 +68,7 @@ fn face(answer: Found) -> NosVariable
 }
 
 // An unknown name's place is the name's start. There is no index at `indexed` 0, and one at every other number.
-#[unsafe(no_mangle)]
-pub extern "C" fn nos_look_up<'a>(
+pub fn nos_look_up<'a>(
     name: &[u8],
     farm: &'a [u8],
     house: &'a [u8],

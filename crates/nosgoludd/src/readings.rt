@@ -15,8 +15,7 @@ pub struct NosNumber {
 }
 
 // Whole is off at 0 and on at every other number; a limit of 4294967295 refuses nothing.
-#[unsafe(no_mangle)]
-pub extern "C" fn nos_read_unsigned(text: &[u8], whole: u32, limit: u32) -> NosNumber
+pub fn nos_read_unsigned(text: &[u8], whole: u32, limit: u32) -> NosNumber
     ensures { result ≡ reading_face (reading text.now (not (eqb whole 0)) limit) }
 {
     let answer = reader::read_unsigned(text, whole != 0, limit);

@@ -57,8 +57,7 @@ fn face(answer: Translated) -> NosAnswer
 
 // There is no index at `indexed` 0, and one at every other number. Bits 29, 30 and 31 of `flags` are the text's flags; its other bits count
 // for nothing. Where accepted, the place is the text's end.
-#[unsafe(no_mangle)]
-pub extern "C" fn nos_translate<'a>(
+pub fn nos_translate<'a>(
     text: &[u8],
     farm: &'a [u8],
     house: &'a [u8],

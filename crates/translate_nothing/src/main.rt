@@ -1,5 +1,6 @@
 // The program over an empty input, which it answers with nothing.
 #![tactic(auto)]
-fn main() {
-    filter::run(&mut [0; 65536], &mut [0; 65535]);
+
+fn main(rt: HostRuntime) {
+    filter::run(&rt, &mut [0; 65536], &mut [0; 65535]);
 }

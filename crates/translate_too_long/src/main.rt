@@ -1,5 +1,6 @@
 // The program over a byte more than it takes. The text ends early, and the bytes behind its end count all the same.
 #![tactic(auto)]
-fn main() {
-    filter::run(&mut [0; 65536], &mut [0; 65535]);
+
+fn main(rt: HostRuntime) {
+    filter::run(&rt, &mut [0; 65536], &mut [0; 65535]);
 }

@@ -52,13 +52,14 @@ fn asked(line: &[u8]) -> usize {
 
 // Writes the answer to a line. `held` takes the bytes that its fields give in hex, which are the first four fields behind
 // the word at most: where these are something else, no operation looks at what they gave.
-pub(crate) fn answer(line: &[u8], held: &mut Held, lent: &mut Lent) {
+pub(crate) fn answer(rt: &impl Print, line: &[u8], held: &mut Held, lent: &mut Lent) {
     let second = fields::unpack(line, 1, held, 0);
     let third = fields::unpack(line, 2, held, second);
     let fourth = fields::unpack(line, 3, held, third);
     let end = fields::unpack(line, 4, held, fourth);
     let bytes: &[u8] = held;
     run(
+        rt,
         line,
         slices::part(bytes, 0, second),
         slices::part(bytes, second, third),
@@ -66,11 +67,12 @@ pub(crate) fn answer(line: &[u8], held: &mut Held, lent: &mut Lent) {
         slices::part(bytes, fourth, end),
         lent,
     );
-    answers::letter(b'\n');
+    answers::letter(rt, b'\n');
 }
 
 // `lent` is the buffer of an operation that writes.
 fn run<'a>(
+    rt: &impl Print,
     line: &[u8],
     first: &'a [u8],
     second: &'a [u8],
@@ -79,16 +81,23 @@ fn run<'a>(
     lent: &mut Lent,
 ) {
     match asked(line) {
-        CONV => conv::answer(line, lent),
-        READ => read::answer(line, first),
-        TABLE => table::answer(first),
-        LOOK => look::answer(first, second, third),
-        TRANS => trans::answer(line, first, second, third, fourth, lent),
-        EVAL => eval::answer(line, first, second, third),
-        DATE => date::answer(line, first, second, lent),
-        INDEX => index::answer(line, first, lent),
-        INDEX_LOOK => look::answer_through(first, second, third),
-        BOTH_LOOK => look::answer_in_both(first, second, third, fields::is_given(line, 3), fourth),
-        _ => answers::bad_line(),
+        CONV => conv::answer(rt, line, lent),
+        READ => read::answer(rt, line, first),
+        TABLE => table::answer(rt, first),
+        LOOK => look::answer(rt, first, second, third),
+        TRANS => trans::answer(rt, line, first, second, third, fourth, lent),
+        EVAL => eval::answer(rt, line, first, second, third),
+        DATE => date::answer(rt, line, first, second, lent),
+        INDEX => index::answer(rt, line, first, lent),
+        INDEX_LOOK => look::answer_through(rt, first, second, third),
+        BOTH_LOOK => look::answer_in_both(
+            rt,
+            first,
+            second,
+            third,
+            fields::is_given(line, 3),
+            fourth,
+        ),
+        _ => answers::bad_line(rt),
     }
 }

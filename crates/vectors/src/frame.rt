@@ -42,12 +42,12 @@ pub(crate) fn framed(lent: &[u8], size: u32) -> &[u8] {
 
 // Adds a word to the answer, which no expected answer has, where the first of these bytes is another than `first`, or one behind it
 // is not the known byte.
-pub(crate) fn watch(kept: &[u8], first: u8) {
+pub(crate) fn watch(rt: &impl Print, kept: &[u8], first: u8) {
     let mut wanted = first;
     let mut at = 0;
     while at < kept.len() {
         if kept[at] != wanted {
-            return answers::word(b" touched");
+            return answers::word(rt, b" touched");
         }
         wanted = FILLER;
         at += 1;

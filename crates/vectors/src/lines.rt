@@ -1,7 +1,7 @@
 // The lines of standard input, by way of a lent buffer.
 ghost use Rattle.std.specs.Prelude.{◌≤◌, length};
 
-use libc::STDIN_FILENO;
+use std::io::Read;
 
 // The longest line has a text and two tables in hex.
 pub const ROOM: usize = 524288;
@@ -12,10 +12,19 @@ pub type Buffer = [u8; ROOM];
 const CUT: u8 = 0;
 
 // Fills the buffer from `kept` on, as far as the input goes, and gives the place behind. A read that fails ends the input.
-pub(crate) fn read_behind(buffer: &mut [u8], kept: usize) -> usize
+pub(crate) fn read_behind(rt: &impl Input, buffer: &mut [u8], kept: usize) -> usize
     requires { kept ≤ length buffer.old }
 {
-    kept + io::read_full(STDIN_FILENO, &mut buffer[kept..])
+    let mut reader = rt.reader();
+    let mut end = kept;
+    while end < buffer.len() {
+        match reader.read(&mut buffer[end..]) {
+            Ok(0) => return end,
+            Ok(more) => end += more,
+            Err(_) => return end,
+        }
+    }
+    end
 }
 
 // Moves the bytes of a full buffer from `start` on to its start, and gives their number. Where that is all of them their line

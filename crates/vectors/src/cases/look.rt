@@ -5,11 +5,12 @@ use lookups::Found;
 use paper::BAD_INDEX;
 use records::Variable;
 
-pub(crate) fn answer<'a>(farm: &'a [u8], house: &'a [u8], name: &[u8]) {
-    answer_in_both(farm, house, &house[..0], false, name)
+pub(crate) fn answer<'a>(rt: &impl Print, farm: &'a [u8], house: &'a [u8], name: &[u8]) {
+    answer_in_both(rt, farm, house, &house[..0], false, name)
 }
 
 pub(crate) fn answer_in_both<'a>(
+    rt: &impl Print,
     farm: &'a [u8],
     house: &'a [u8],
     index: &[u8],
@@ -19,41 +20,46 @@ pub(crate) fn answer_in_both<'a>(
     match lookups::look_up(farm, house, index, indexed, name) {
         Found::At(v) => {
             let holder = v.holder;
-            answers::word(b"rec ");
-            answers::letter(answers::letter_of(holder));
-            rest_of(v, lookups::look_up_value(farm, house, index, indexed, name))
+            answers::word(rt, b"rec ");
+            answers::letter(rt, answers::letter_of(holder));
+            rest_of(
+                rt,
+                v,
+                lookups::look_up_value(farm, house, index, indexed, name),
+            )
         }
-        Found::Unknown => answers::word(b"none"),
+        Found::Unknown => answers::word(rt, b"none"),
         Found::BadTable { number, holder, at } => {
-            answers::refusal_in(number, answers::letter_of(holder), at.0)
+            answers::refusal_in(rt, number, answers::letter_of(holder), at.0)
         }
-        Found::BadIndex => answers::refusal_in(BAD_INDEX, b'i', 0),
+        Found::BadIndex => answers::refusal_in(rt, BAD_INDEX, b'i', 0),
     }
 }
 
 // One table has no letter in `rec PLACE KIND VALUEHEX`.
-pub(crate) fn answer_through<'a>(table: &'a [u8], index: &'a [u8], name: &[u8]) {
+pub(crate) fn answer_through<'a>(rt: &impl Print, table: &'a [u8], index: &'a [u8], name: &[u8]) {
     match lookups::look_up(&table[..0], table, index, true, name) {
         Found::At(v) => {
-            answers::word(b"rec");
+            answers::word(rt, b"rec");
             rest_of(
+                rt,
                 v,
                 lookups::look_up_value(&table[..0], table, index, true, name),
             )
         }
-        Found::Unknown => answers::word(b"none"),
+        Found::Unknown => answers::word(rt, b"none"),
         Found::BadTable { number, holder, at } => {
-            answers::refusal_in(number, answers::letter_of(holder), at.0)
+            answers::refusal_in(rt, number, answers::letter_of(holder), at.0)
         }
-        Found::BadIndex => answers::refusal_in(BAD_INDEX, b'i', 0),
+        Found::BadIndex => answers::refusal_in(rt, BAD_INDEX, b'i', 0),
     }
 }
 
 // ` PLACE KIND VALUEHEX`
-fn rest_of(v: Variable, value: &[u8]) {
+fn rest_of(rt: &impl Print, v: Variable, value: &[u8]) {
     let at = v.at;
     let kind = v.kind;
-    answers::number(at.0);
-    answers::number(kind.number() as usize);
-    answers::hex(value);
+    answers::number(rt, at.0);
+    answers::number(rt, kind.number() as usize);
+    answers::hex(rt, value);
 }

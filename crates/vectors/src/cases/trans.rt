@@ -8,6 +8,7 @@ use paper::BAD_INDEX;
 use symbols::flags::Flags;
 
 pub(crate) fn answer<'a>(
+    rt: &impl Print,
     line: &[u8],
     text: &[u8],
     farm: &'a [u8],
@@ -28,34 +29,42 @@ pub(crate) fn answer<'a>(
         allowance,
         frame::room(lent, room),
     );
-    show(translated, frame::framed(lent, room));
+    show(rt, translated, frame::framed(lent, room));
 }
 
-fn show(translated: Translated, framed: &[u8]) {
+fn show(rt: &impl Print, translated: Translated, framed: &[u8]) {
     match translated {
-        Translated::Written { end, need, free } => written(end.0, need, free, framed),
+        Translated::Written { end, need, free } => written(rt, end.0, need, free, framed),
         Translated::Refused {
             number,
             at,
             need,
             free,
-        } => refused(number, b't', at.0, need, free, framed),
+        } => refused(rt, number, b't', at.0, need, free, framed),
         Translated::BadTable {
             number,
             holder,
             at,
             free,
-        } => refused(number, answers::letter_of(holder), at.0, 0, free, framed),
-        Translated::BadIndex { free } => refused(BAD_INDEX, b'i', 0, 0, free, framed),
+        } => refused(
+            rt,
+            number,
+            answers::letter_of(holder),
+            at.0,
+            0,
+            free,
+            framed,
+        ),
+        Translated::BadIndex { free } => refused(rt, BAD_INDEX, b'i', 0, 0, free, framed),
     }
 }
 
 // `ok OUTHEX END NEED FREE`
-fn written(end: usize, need: usize, free: usize, framed: &[u8]) {
-    answers::word(b"ok");
-    answers::hex(slices::part(framed, 0, need));
-    answers::number(end);
-    answers::number(need);
-    answers::number(free);
-    frame::watch(slices::part(framed, need, framed.len()), FILLER);
+fn written(rt: &impl Print, end: usize, need: usize, free: usize, framed: &[u8]) {
+    answers::word(rt, b"ok");
+    answers::hex(rt, slices::part(framed, 0, need));
+    answers::number(rt, end);
+    answers::number(rt, need);
+    answers::number(rt, free);
+    frame::watch(rt, slices::part(framed, need, framed.len()), FILLER);
 }
