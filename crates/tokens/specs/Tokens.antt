@@ -1,5 +1,5 @@
 -- Tokens: an operator, a number, a name, a bracket, longest first, the spaces before each ignored.
-use Rattle.std.specs.Prelude.{Bool, false, cond, ◌||◌, List, [], ◌∷◌, ℕ, suc, ◌+◌, eqb, get_or, take, drop}
+use Rattle.std.specs.Prelude.{Bool, false, cond, ◌||◌, List, ℕ, ◌+◌, eqb, get_or, take, drop}
 use Rattle.paper.specs.Bytes.{among, run_of, spaces, ends, letter, word_byte}
 use Rattle.paper.specs.Texts.{bytes}
 use Rattle.paper.specs.Refusals.{no_digit, bad_base}
