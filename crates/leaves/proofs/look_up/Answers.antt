@@ -9,7 +9,6 @@ use Rattle.records.specs.declared.Variable.{Variable}
 use Rattle.records.specs.declared.kinds.Kind.{Kind}
 use Rattle.records.specs.declared.kinds.Kind.TheVariants.{Text, Integer, Macro}
 use Rattle.variables.specs.Holdings.{part_of}
-use Rattle.variables.specs.inner.Keys.{sought_by, match_as}
 use Rattle.variables.specs.declared.Match.{Match}
 use Rattle.variables.specs.declared.Match.TheVariants.{Record, Missing}
 use Rattle.parts.specs.declared.Part.{Part}
