@@ -60,8 +60,8 @@ module _ (text farm house : List ℕ) (allowance : ℕ) where
       (record { number = refl; counted = refl; place = refl })
 
   -- the same by the text's length and the judgement of the tables, as the code finds them
-  pub too_long : longest < length text → refused_at over_length 0 ≡ evaluated text farm house allowance
-  too_long h = sym (by_judgement long_text (Judging.over text farm house h))
+  pub too_long : longest < length text → evaluated text farm house allowance ≡ refused_at over_length 0
+  too_long h = by_judgement long_text (Judging.over text farm house h)
 
   pub over : (d : Judged) → length text ≤ longest → judged_tables farm house ≡ d
       → evaluated_over (judged_by d) ran_so (value_in text farm house) ≡ evaluated text farm house allowance

@@ -84,6 +84,7 @@ fn evaluate_over<'a>(
 }
 
 // The value of an expression, its names those of integer variables of the farm's table and the house's.
+#[tactic(auto, using(crate::proofs::Orders::too_long))]
 pub fn evaluate<'a>(text: &[u8], farm: &'a [u8], house: &'a [u8], allowance: u32) -> Evaluated
     ensures { result ≡ evaluated text.now farm.now house.now allowance }
 {

@@ -1,18 +1,13 @@
 -- `evaluate` meets its contract: 18 for the text, 18 and 13 for the tables, then the reading.
 use mathlib.Core.Path.{◌≡◌, refl, ap, sym, ◌∙◌}
 use mathlib.Core.List.{List}
-use Prim.Native.Nat.{ℕ, ◌≤◌}
+use Prim.Native.Nat.{ℕ}
 use native.Mathlib.Omega.{arith}
-use lib.ListN.{length}
-use Rattle.paper.specs.Refusals.{longest}
 use Rattle.paper.specs.Traces.{run, allowed}
-use Rattle.variables.specs.declared.both.Judged.{Judged}
-use Rattle.variables.specs.declared.both.Judged.TheVariants.{Good as AllGood}
-use Rattle.variables.specs.Judgements.{judged, judged_by}
 use Rattle.variables.proofs.KeysFind.{keys_long, lines_inside, all_lines}
-use Rattle.expressions.specs.Answers.{reading_of, value_in, evaluated_by, evaluated_over, evaluated}
+use Rattle.expressions.specs.Answers.{reading_of, value_in, evaluated_by, evaluated}
 use Rattle.expressions.specs.declared.Evaluated.{Evaluated}
-use Rattle.expressions.proofs.Orders.{too_long, over}
+use Rattle.expressions.proofs.Orders.{over}
 use Rattle.expressions.proofs.evaluate.Goals as goal
 
 -- the reading of a text over good tables, its allowance capped
@@ -20,11 +15,6 @@ over_good : (text farm house : List ℕ) (allowance left : ℕ) (r : Evaluated) 
     → left ≡ allowed allowance → evaluated_by (run (reading_of text farm house) (allowed allowance)) (value_in text farm house) ≡ evaluated text farm house allowance
     → r ≡ evaluated text farm house allowance
 over_good text farm house allowance left r e capped decides = e ∙ ap (λ n. evaluated_by (run (reading_of text farm house) n) (value_in text farm house)) capped ∙ decides
-
-pub returns-then-text-gt-LONGEST : goal.returns-then-text-gt-LONGEST
-returns-then-text-gt-LONGEST c =
-    let a = c.args in
-    c.refused.ensures ∙ too_long a.text.now a.farm.now a.house.now a.allowance (omega arith)
 
 pub slice_bounds-lines-end : goal.slice_bounds-lines-end
 slice_bounds-lines-end c = keys_long c.args.farm.now c.args.house.now _ _ c.key_tables-judged.ensures.keys refl

@@ -1,7 +1,7 @@
 -- The levels and the operand meet their contracts: each level reads operands of the next tighter one, and a bracket's operand the
 -- loosest again, one level deeper.
-use mathlib.Core.Path.{◌≡◌, refl, sym, ap, ◌∙◌}
-use Prim.Native.Nat.{ℕ, ◌-◌}
+use mathlib.Core.Path.{refl, sym, ◌∙◌}
+use Prim.Native.Nat.{◌-◌}
 use native.Mathlib.Omega.{arith}
 use lib.ListN.{take, drop}
 use Rattle.variables.specs.Names.{names_of}
@@ -48,7 +48,7 @@ operand-returns-in-Name t c =
     let a = c.args in
     let l = c.token_at-first.result in
     starts_with _ _ _ _ _ _ c.token_at-first.ensures Name _ _ c.in-Name.is refl
-    (c.named.ensures ∙ named_part_lem l.place l.next a.farm.now a.house.now a.keys.now (take (l.next - l.place) (drop l.place a.text.now)) a.account c.requires)
+    (rw c.named.ensures (named_part_lem l.place l.next a.farm.now a.house.now a.keys.now (take (l.next - l.place) (drop l.place a.text.now)) a.account c.requires))
 
 pub operand-returns-else-levels-eq0 : goal.operand-returns-else-levels-eq0
 operand-returns-else-levels-eq0 t c =
