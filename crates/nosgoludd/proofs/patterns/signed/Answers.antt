@@ -6,11 +6,9 @@ use lib.IntN.{pos, negsuc, ◌-ℤ◌}
 use mir.Syntax.{w32}
 use mir.Val.{SFits, to_z, of_z}
 use mir.ValLaws.{to_z_pos, to_z-of_z}
-use borrow.Author.Rules.{rules}
 use Rattle.arithmetic.specs.Values.{signed}
 use Rattle.arithmetic.proofs.Signs.{by_sign}
-use Rattle.nosgoludd.proofs.patterns.signed.Statement.{statement}
-use Rattle.nosgoludd.proofs.patterns.signed.Tie as tie
+use Rattle.nosgoludd.proofs.patterns.signed.Goals as goal
 
 lower : (p : ℕ) → p < 2147483648 → to_z w32 p ≡ signed p
 lower p low = by_sign (λ z. to_z w32 p ≡ z) p (λ _. to_z_pos w32 p low) (λ high. absurd (omega arith))
@@ -31,14 +29,11 @@ upper p high =
     to_z-of_z w32 _ (fits (4294967295 - p) (omega arith)) ∙ turned (4294967295 - p) (omega arith)
     ∙ by_sign (λ z. negsuc (4294967295 - p) ≡ z) p (λ low. absurd (omega arith)) (λ _. refl)
 
-returns : tie.Need-returns
-returns c = lower c.before.args.pattern (omega (arith, c.if1.true))
+pub returns-then-pattern-lt2147483648 : goal.returns-then-pattern-lt2147483648
+returns-then-pattern-lt2147483648 c = lower c.args.pattern (omega (arith, c.if-pattern-lt2147483648.true))
 
-sub-result-2 : tie.Need-overflow-sub-result-2
-sub-result-2 c = fits (4294967295 - c.before.args.pattern) (omega (arith, c.if1.false))
+pub overflow_sub-result-2 : goal.overflow_sub-result-2
+overflow_sub-result-2 c = fits (4294967295 - c.args.pattern) (omega (arith, c.if-pattern-lt2147483648.false))
 
-returns-2 : tie.Need-returns-2
-returns-2 c = upper c.before.args.pattern (omega (arith, c.if1.false))
-
-pub signed_spec : {M : Type 1} → statement M
-signed_spec = tie.close (tie.spec (λ c. search rules) returns (λ c. search rules) (λ c. search rules) sub-result-2 returns-2)
+pub returns : goal.returns
+returns c = upper c.args.pattern (omega (arith, c.if-pattern-lt2147483648.false))

@@ -4,36 +4,30 @@ use Prim.Native.Nat.{ℕ}
 use lib.IntN.{ℤ}
 use mir.Syntax.{w32}
 use mir.ValLaws.{to_z-of_z}
-use borrow.Author.Rules.{rules}
 use Rattle.paper.specs.declared.TextPlace.{TextPlace}
 use Rattle.arithmetic.specs.Values.{signed}
 use Rattle.expressions.specs.declared.Evaluated.{Evaluated}
 use Rattle.expressions.specs.declared.Evaluated.TheVariants.{Value}
 use Rattle.nosgoludd.specs.declared.evaluations.NosValue.{NosValue}
 use Rattle.nosgoludd.specs.Faces.{evaluation_face}
-use Rattle.nosgoludd.proofs.evaluations.face.Statement.{statement}
-use Rattle.nosgoludd.proofs.evaluations.face.Tie as tie
+use Rattle.nosgoludd.proofs.evaluations.face.Goals as goal
 
 -- the C form of a value whose number is known
 told : (pattern : ℕ) (end : TextPlace) (value : ℤ) (r : Evaluated) → value ≡ signed pattern → Value pattern end ≡ r
     → ◌≡◌ {A = NosValue} (record { number = 0; counted = 0; place = end.0; value = value }) (evaluation_face r)
 told pattern end value r v e = ap (λ v. record { number = 0; counted = 0; place = end.0; value = v }) v ∙ ap evaluation_face e
 
-returns : tie.Need-returns
-returns c =
-    told _ _ _ _ (to_z-of_z w32 c.signed.result (record { sfits = c.signed.type-inv }) ∙ c.signed.ensures)
-    (sym c.before.before.answer.given.1)
+pub returns-in-Value : goal.returns-in-Value
+returns-in-Value c =
+    told _ _ _ _ (to_z-of_z w32 c.signed.result (record { sfits = c.signed.type_inv }) ∙ c.signed.ensures)
+    (sym c.in-Value.is)
 
-returns-2 : tie.Need-returns-2
+pub returns-in-Refused : goal.returns-in-Refused
 unfolding signed
-returns-2 c = ap evaluation_face (sym c.before.answer2.given.1)
+returns-in-Refused c = ap evaluation_face (sym c.in-Refused.is)
 
-returns-3 : tie.Need-returns-3
+pub returns-in-BadTable : goal.returns-in-BadTable
 unfolding signed
-returns-3 c =
-    rw c.counted-in.ensures
-    (ap evaluation_face (sym c.before.before.answer3.given.1))
-
-pub face_spec : {M : Type 1} → statement M
-face_spec =
-    tie.close (tie.spec (λ c. search rules) (λ c κs. search rules) (λ c. search rules) (λ c. search rules) (λ c. search rules) (λ c. search rules) (λ c κs. search rules) returns returns-2 returns-3)
+returns-in-BadTable c =
+    rw c.counted_in.ensures
+    (ap evaluation_face (sym c.in-BadTable.is))

@@ -5,22 +5,20 @@ use mathlib.Core.List.{List}
 use Prim.Native.Nat.{ℕ, ◌+◌, ◌≤◌}
 use lib.ListN.{length}
 use lib.Seq.{sets, sets-eq}
-use borrow.Author.Rules.{rules}
 use borrow.Author.Tests.{le-leb}
 use Rattle.runs.specs.Output.{laid_at}
 use Rattle.filter.proofs.LineLaws.{Put}
-use Rattle.filter.proofs.lines.put.Statement.{statement}
-use Rattle.filter.proofs.lines.put.Tie as tie
+use Rattle.filter.proofs.lines.put.Goals as goal
 
 whole : (out bytes after : List ℕ) (at : ℕ) → at + length bytes ≤ length out → after ≡ laid_at out at bytes → Put out at bytes (at + length bytes) after
 whole out bytes after at fits e =
     (refl, e ∙ ap (λ b. cond b (sets out at bytes) out) (le-leb (at + length bytes) (length out) fits) ∙ sets-eq bytes out at fits)
 
-returns : tie.Need-returns
+pub returns : goal.returns
 returns c =
     let begun = c.before.before.before.before.before.before in
     let a = begun.args in
-    whole a.out.now a.bytes.now _ a.at begun.requires c.before.before.copy.ensures
-
-pub put_spec : {M : Type 1} → statement M
-put_spec = tie.close (tie.spec (λ c κs. search rules) (λ c. search rules) (λ c. search rules) returns)
+    record {
+      next = (whole a.out.now a.bytes.now _ a.at begun.requires c.copy.ensures).0;
+      buffer = (whole a.out.now a.bytes.now _ a.at begun.requires c.copy.ensures).1;
+    }
