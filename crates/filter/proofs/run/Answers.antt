@@ -13,4 +13,4 @@ counted : (text out : List ℕ) {after : List ℕ} {end : ℕ} → Stands out (a
 counted text out {after} {end} (ends, e) = ends ∙ ap length (sym (ap (take end) e ∙ take_at (answer_to text) (drop end out) end (sym ends)))
 
 pub slice_bounds-send-end : goal.slice_bounds-send-end
-slice_bounds-send-end c = counted _ _ (c.answer-answer.ensures.length, c.answer-answer.ensures.buffer)
+slice_bounds-send-end g c = counted _ _ (c.answer-answer.ensures.length, c.answer-answer.ensures.buffer)

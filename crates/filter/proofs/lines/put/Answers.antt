@@ -16,9 +16,5 @@ whole out bytes after at fits e =
 
 pub returns : goal.returns
 returns c =
-    let begun = c.before.before.before.before.before.before in
-    let a = begun.args in
-    record {
-      next = (whole a.out.now a.bytes.now _ a.at begun.requires c.copy.ensures).0;
-      buffer = (whole a.out.now a.bytes.now _ a.at begun.requires c.copy.ensures).1;
-    }
+    let laid = whole c.args.out.now c.args.bytes.now _ c.args.at c.requires c.copy.ensures in
+    record { next = laid.0; buffer = laid.1 }

@@ -1,28 +1,23 @@
--- `put_decimal` meets its contract: the fewest digits that hold a number are its decimal.
+-- `put_decimal` meets its contract: what the library writes of a number is its decimal, of at most 20 digits.
+use mathlib.Core.Path.{◌≡◌, ap, subst, ◌∙◌}
+use mathlib.Core.List.{List}
+use Prim.Native.Nat.{ℕ}
 use native.Mathlib.Omega.{arith}
-use Rattle.filter.proofs.LineLaws.{few_digits, digits_decimal, put_same}
+use lib.ListN.{length}
+use Rattle.std.proofs.lemmas.Fmt.{length-decimal-le}
+use Rattle.filter.specs.Lines.{decimal}
+use Rattle.filter.proofs.LineLaws.{Put, put_same, written}
 use Rattle.filter.proofs.lines.put_decimal.Goals as goal
 
 pub put-requires : goal.put-requires
 put-requires c =
-    let d = c.decimal in
-    omega (arith, d.ensures.0, few_digits c.args.n d.result (omega arith) d.ensures.1.0)
+    let few = length-decimal-le 20 c.args.n (omega arith) (omega arith) (omega arith) in
+    omega (arith, few, ap length (c.as_bytes.ensures.value ∙ c.format.ensures.text))
 
 pub returns : goal.returns
 returns c =
     let a = c.args in
-    let d = c.decimal in
-    let p = (c.put.ensures.next, c.put.ensures.buffer) in record {
-      near = ((
-        omega (arith, p.0, d.ensures.0, few_digits a.n d.result (omega arith) d.ensures.1.0),
-        put_same a.out.now a.at (digits_decimal a.n d.result d.ensures.1.0 d.ensures.1.1) p,
-      )).0;
-      next = ((
-        omega (arith, p.0, d.ensures.0, few_digits a.n d.result (omega arith) d.ensures.1.0),
-        put_same a.out.now a.at (digits_decimal a.n d.result d.ensures.1.0 d.ensures.1.1) p,
-      )).1;
-      buffer = ((
-        omega (arith, p.0, d.ensures.0, few_digits a.n d.result (omega arith) d.ensures.1.0),
-        put_same a.out.now a.at (digits_decimal a.n d.result d.ensures.1.0 d.ensures.1.1) p,
-      )).2;
-    }
+    let few = length-decimal-le 20 a.n (omega arith) (omega arith) (omega arith) in
+    let text = c.as_bytes.ensures.value ∙ c.format.ensures.text in
+    let whole = put_same a.out.now a.at (text ∙ written a.n (omega arith)) (c.put.ensures.next, c.put.ensures.buffer) in
+    record { near = omega (arith, few, ap length text, c.put.ensures.next); next = whole.0; buffer = whole.1 }
