@@ -10,7 +10,7 @@ use lib.Seq.{take-append_seam, get_or-append_seam}
 use Rattle.paper.specs.Answers.{in_text, refusal}
 use Rattle.paper.specs.Bytes.{run_of, name_byte}
 use Rattle.paper.specs.Refusals.{too_big, code_over_255, greatest_code}
-use Rattle.paper.specs.Traces.{Trace, ended, faults, gives, asks, spends, enters, bytes, run, answer, allowed}
+use Rattle.paper.specs.Traces.{Trace, ended, faults, gives, asks, spends, enters, bytes, answer, allowed}
 use Rattle.paper.specs.declared.faults.Fault.TheVariants.{CodeOver255}
 use Rattle.paper.proofs.Choice.{below, not_below, other}
 use Rattle.reader.specs.Reading.{reading, refused, valued, no_limit}
@@ -26,7 +26,7 @@ use Rattle.gs.specs.Translations.{reading_of, translated_answer}
 use Rattle.gs.specs.declared.Translated.{Translated}
 use Rattle.gs.proofs.Answers.{good_answer, written_buffer, kept_buffer}
 use Rattle.promises.specs.Allowed.{Translates}
-use Rattle.promises.specs.Codes.{Met, Unread, Content, referring, OneNumber, Alone, InAMacro}
+use Rattle.promises.specs.Codes.{Met, Unread, Content, referring, Alone, InAMacro}
 use Rattle.promises.proofs.TwoTablesKept.{macro_of_either}
 
 -- what a content gives that the reader takes

@@ -3,13 +3,13 @@ use mathlib.Core.Path.{◌≡◌, refl, ap, ap₂, sym, subst, ◌∙◌}
 use mathlib.Core.Bool.{Bool, true, false, not, cond}
 use mathlib.Core.List.{List, [], ◌++◌, append-nil}
 use mathlib.Core.Logic.{◌↔◌}
-use Prim.Native.Nat.{ℕ, ◌+◌, ◌-◌, ◌/◌, ◌%◌, ◌≤◌, ◌<◌}
+use Prim.Native.Nat.{ℕ, ◌+◌, ◌-◌, ◌/◌, ◌%◌, ◌≤◌}
 use native.Mathlib.Omega.{arith}
 use borrow.Author.Tests.{eqb-true, eqb-false}
 use lib.Dec.{ltb, eqb}
 use lib.ListN.{length, take, drop, length-append}
 use lib.Seq.{take-append_seam}
-use Rattle.paper.specs.Answers.{in_text, Answer, refusal, GrownWhole}
+use Rattle.paper.specs.Answers.{in_text, Answer, GrownWhole}
 use Rattle.paper.specs.Layings.{terminator, converted_by, converted_answer}
 use Rattle.paper.specs.Refusals.{no_room, unknown_call, longest}
 use Rattle.paper.proofs.Choice.{clash, same, other, either}
@@ -21,12 +21,11 @@ use Rattle.forms.specs.declared.forms.Base.{Base}
 use Rattle.forms.specs.declared.forms.Base.TheVariants.{Two, Ten, Sixteen}
 use Rattle.forms.specs.declared.forms.Width.TheVariants.{Word}
 use Rattle.numbers.specs.Conversions.{answer_in, buffer_in, answer_of, buffer_of}
-use Rattle.paper.specs.declared.layings.Converted.{Converted}
 use Rattle.numbers.proofs.Bounds.{string_short}
 use Rattle.reader.specs.Reading.{no_limit, reading, valued, read_number, read_place, read_value}
 use Rattle.promises.specs.Leads.{lead}
 use Rattle.promises.proofs.ReadBack.{read_back}
-use Rattle.promises.specs.Conversions.{OneAnswer, Accepts, needed, Refuses, Refusals, Tells, Exact, OffsetAndFree, Bytes, XForm, Terminated, GivesAlone, CharactersAlone, SameCharacters, ReadAs, ReadsBack, LargerRoom, SecondAsk}
+use Rattle.promises.specs.Conversions.{OneAnswer, Accepts, needed, Refuses, Refusals, Tells, Exact, OffsetAndFree, Bytes, XForm, Terminated, CharactersAlone, SameCharacters, ReadsBack, LargerRoom, SecondAsk}
 use Rattle.promises.proofs.Layings as Layings
 use Rattle.promises.proofs.Layings.{accepts_by, refusal_grows}
 use Rattle.promises.proofs.Outcomes.{Outcome, refuses, lays, one_form, not_both, outcome}
@@ -42,6 +41,24 @@ same_need : (call value : ℕ) (f g : Form) → described call ≡ known f → d
 same_need call value f g p q = ap (λ h. needed h value) (one_form call f g p q)
 
 module _ (call value : ℕ) (buf : List ℕ) where
+  -- of the one form that a call has
+  refused_of : (form : Form) → described call ≡ known form → (a : Answer) (after : List ℕ)
+      → Laid.Outcome (string form value) form.terminated buf a after → Refuses call value buf after a
+  refused_of form k a after (no_room_for less) =
+      record {
+        unknown = (λ e. absurd (omega arith), λ e. absurd (not_both call form e k));
+        room = (λ _. (form, k, less), λ _. refl);
+        accepted = (λ e. absurd (omega arith), λ f. absurd (omega (arith, f.2, same_need call value form f.0 k f.1)));
+        kept = λ _. refl;
+      }
+  refused_of form k a after (laid room) =
+      record {
+        unknown = (λ e. absurd (omega arith), λ e. absurd (not_both call form e k));
+        room = (λ e. absurd (omega arith), λ f. absurd (omega (arith, f.2, same_need call value form f.0 k f.1)));
+        accepted = (λ _. (form, k, room), λ _. refl);
+        kept = λ n. absurd (n refl);
+      }
+
   refused_as : (a : Answer) (after : List ℕ) → Outcome call value buf a after → Refuses call value buf after a
   refused_as a after (refuses k) =
       record {
@@ -50,20 +67,7 @@ module _ (call value : ℕ) (buf : List ℕ) where
         accepted = (λ e. absurd (omega arith), λ f. absurd (not_both call f.0 k f.1));
         kept = λ _. refl;
       }
-  refused_as a after (lays form k (no_room_for less)) =
-      record {
-        unknown = (λ e. absurd (omega arith), λ e. absurd (not_both call form e k));
-        room = (λ _. (form, k, less), λ _. refl);
-        accepted = (λ e. absurd (omega arith), λ f. absurd (omega (arith, f.2, same_need call value form f.0 k f.1)));
-        kept = λ _. refl;
-      }
-  refused_as a after (lays form k (laid room)) =
-      record {
-        unknown = (λ e. absurd (omega arith), λ e. absurd (not_both call form e k));
-        room = (λ e. absurd (omega arith), λ f. absurd (omega (arith, f.2, same_need call value form f.0 k f.1)));
-        accepted = (λ _. (form, k, room), λ _. refl);
-        kept = λ n. absurd (n refl);
-      }
+  refused_as a after (lays form k o) = refused_of form k a after o
 
   -- what an answer says, over the one form that its call has
   abbrev accepted_of : Form → Answer
@@ -73,6 +77,21 @@ module _ (call value : ℕ) (buf : List ℕ) where
   abbrev no_room_of : Form → Answer
   no_room_of form = record { number = no_room; counted = in_text; place = 0; need = needed form value; free = length buf }
 
+  told_of : (form : Form) → described call ≡ known form → (a : Answer) (after : List ℕ)
+      → Laid.Outcome (string form value) form.terminated buf a after → Tells call value (length buf) a
+  told_of form k a after (no_room_for less) =
+      record {
+        accepted = λ f e room. absurd (omega (arith, same_need call value form f k e));
+        no_room = λ f e h. ap no_room_of (one_form call form f k e);
+        unknown = λ e. absurd (not_both call form e k);
+      }
+  told_of form k a after (laid room) =
+      record {
+        accepted = λ f e h. ap accepted_of (one_form call form f k e);
+        no_room = λ f e less. absurd (omega (arith, same_need call value form f k e));
+        unknown = λ e. absurd (not_both call form e k);
+      }
+
   told : (a : Answer) (after : List ℕ) → Outcome call value buf a after → Tells call value (length buf) a
   told a after (refuses k) =
       record {
@@ -80,18 +99,7 @@ module _ (call value : ℕ) (buf : List ℕ) where
         no_room = λ form e less. absurd (not_both call form k e);
         unknown = λ _. refl;
       }
-  told a after (lays form k (no_room_for less)) =
-      record {
-        accepted = λ f e room. absurd (omega (arith, same_need call value form f k e));
-        no_room = λ f e h. ap no_room_of (one_form call form f k e);
-        unknown = λ e. absurd (not_both call form e k);
-      }
-  told a after (lays form k (laid room)) =
-      record {
-        accepted = λ f e h. ap accepted_of (one_form call form f k e);
-        no_room = λ f e less. absurd (omega (arith, same_need call value form f k e));
-        unknown = λ e. absurd (not_both call form e k);
-      }
+  told a after (lays form k o) = told_of form k a after o
 
   -- an accepted answer's offset, and what it leaves
   written : (form : Form) (a : Answer) (after : List ℕ) → described call ≡ known form → a.number ≡ 0 → Outcome call value buf a after

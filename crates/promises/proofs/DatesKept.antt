@@ -3,11 +3,11 @@ use mathlib.Core.Path.{◌≡◌, refl, ap, sym, subst₂, ◌∙◌}
 use mathlib.Core.Bool.{true}
 use mathlib.Core.List.{List, [], ◌∷◌, ◌++◌, Memᴰ}
 use mathlib.Core.Logic.{◌↔◌}
-use Prim.Native.Nat.{ℕ, zero, suc, ◌+◌, ◌*◌, ◌≤◌, ◌<◌}
+use Prim.Native.Nat.{ℕ, ◌+◌, ◌≤◌, ◌<◌}
 use native.Mathlib.Omega.{arith}
 use lib.ListN.{length, drop}
 use Rattle.paper.specs.Answers.{in_text, Answer, refusal, GrownWhole}
-use Rattle.paper.specs.Layings.{room_for, converted_answer}
+use Rattle.paper.specs.Layings.{converted_answer}
 use Rattle.paper.specs.Refusals.{no_room, over_length, bad_field}
 use Rattle.paper.specs.declared.layings.Converted.{Converted}
 use Rattle.paper.proofs.Choice.{clash}
@@ -21,7 +21,7 @@ use Rattle.dates.proofs.BadFields.{bad_at, leftmost}
 use Rattle.dates.proofs.Outcomes as Outcomes
 use Rattle.dates.proofs.Outcomes.{Outcome, unfits, stops, lays, converted_kept}
 use Rattle.promises.specs.Allowed.{Dates}
-use Rattle.promises.specs.Dates.{OneAnswer, Accepts, Fit, fields_in, needed, Refuses, Refusals, Tells, Exact, OffsetAndFree, FirstBad, BadField, Bytes, LargerRoom, SecondAsk, NeedByFormat, OneDate, OfADay, LeapYears}
+use Rattle.promises.specs.Dates.{OneAnswer, Accepts, fields_in, needed, Refuses, Refusals, Tells, Exact, OffsetAndFree, BadField, Bytes, LargerRoom, SecondAsk, NeedByFormat, OfADay, LeapYears}
 use Rattle.promises.proofs.Layings.{accepts_by, written, summed, again, refusal_grows}
 
 pub one_answer : OneAnswer

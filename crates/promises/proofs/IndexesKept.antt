@@ -1,6 +1,6 @@
 -- What `build_index` promises is kept.
 use mathlib.Core.Path.{◌≡◌, refl, ap, sym, subst, subst₂, ◌∙◌}
-use mathlib.Core.Bool.{Bool, true, false, false≢true}
+use mathlib.Core.Bool.{true, false≢true}
 use mathlib.Core.List.Memᴰ
 use mathlib.Core.List.Memᴰ.{head}
 use mathlib.Core.List.Memᴰ.{tail}
@@ -13,8 +13,7 @@ use borrow.Author.Tests.{lt-ltb, le-ltb, eq-eqb, ne_eqb}
 use lib.ListN.{length, get_or, take, drop, length-append}
 use lib.Seq.{take_at, drop_at, get_or-append_seam}
 use Rattle.paper.specs.Answers.{in_text, in_house, Answer, refusal, Grown, GrownWhole}
-use Rattle.paper.specs.Refusals.{no_room, bad_index, allowance_spent}
-use Rattle.paper.proofs.Choice.{clash, either}
+use Rattle.paper.specs.Refusals.{no_room}
 use Rattle.records.specs.Records.{Entry, small, comes_before}
 use Rattle.records.proofs.Equal.{reflexive, same_bytes_lem, bytes_same}
 use Rattle.records.proofs.Order as Order
@@ -22,13 +21,13 @@ use Rattle.variables.specs.Tables.{checked, check_number, check_place, check_cou
 use Rattle.variables.specs.declared.Checked.{Checked}
 use Rattle.variables.specs.declared.Checked.TheVariants.{Good, BadTable}
 use Rattle.variables.proofs.Bounds.{checked_bounded, good_table}
-use Rattle.variables.proofs.Good.{Laid, laid}
+use Rattle.variables.proofs.Good.{laid}
 use Rattle.variables.proofs.Unique.{apart}
 use Rattle.indexes.specs.Indexes.{given_index, index_of, in_order, inserted_all, place_bytes}
 use Rattle.indexes.specs.Buildings.{built_over, built, laid_by, index_after, built_answer, build_numbers}
 use Rattle.indexes.specs.inner.Halving.{place_in, nearest}
 use Rattle.indexes.specs.declared.building.Built.{Built}
-use Rattle.indexes.specs.declared.building.Built.TheVariants.{Written, NoRoom, NotGood}
+use Rattle.indexes.specs.declared.building.Built.TheVariants.{Written, NoRoom}
 use Rattle.indexes.proofs.Entries.{place_in_lem}
 use Rattle.indexes.proofs.Searching.{bytes_long, search_same, in_order_listed}
 use Rattle.indexes.proofs.Sorting as Sorting

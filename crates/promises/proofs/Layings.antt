@@ -10,7 +10,6 @@ use lib.Dec.{eqb}
 use lib.ListN.{length, drop}
 use Rattle.paper.specs.Answers.{in_text, Answer, refusal, GrownWhole}
 use Rattle.paper.specs.Layings.{terminator, room_for, converted_by, converted_answer}
-use Rattle.paper.specs.Refusals.{no_room}
 use Rattle.paper.specs.declared.layings.Converted.{Converted}
 use Rattle.paper.proofs.Choice.{clash, either}
 use Rattle.paper.proofs.Laid.{Outcome, no_room_for, laid}

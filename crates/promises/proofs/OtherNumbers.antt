@@ -2,8 +2,8 @@
 use mathlib.Core.List.Memᴰ
 use mathlib.Core.List.Memᴰ.{head}
 use mathlib.Core.List.Memᴰ.{tail}
-use mathlib.Core.List.{List, Memᴰ}
-use mathlib.Core.Path.{◌≡◌, refl}
+use mathlib.Core.List.{Memᴰ}
+use mathlib.Core.Path.{◌≡◌}
 use Prim.Native.Nat.{ℕ, zero, suc}
 use native.Mathlib.Omega.{arith}
 use lib.Dec.{ltb}

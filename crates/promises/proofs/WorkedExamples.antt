@@ -8,10 +8,10 @@ use native.Mathlib.Omega.{arith}
 use lib.Dec.{lit≤, lit<}
 use lib.IntN.{pos, neg_ℤ}
 use lib.ListN.{length, take, drop}
-use Rattle.paper.specs.Answers.{Answer, in_text, in_house, in_farm, in_index}
+use Rattle.paper.specs.Answers.{Answer, in_text, in_house, in_farm}
 use Rattle.paper.specs.Bytes.{name_byte, word_byte}
 use Rattle.paper.specs.Layings.{terminator, room_for, laying_of, converted_by, converted_answer}
-use Rattle.paper.specs.Refusals.{no_room, bad_base, too_deep, allowance_spent, bad_table, bad_expression, not_an_integer, over_length, bad_field, bad_index}
+use Rattle.paper.specs.Refusals.{no_room, bad_base, too_deep, allowance_spent, bad_table, bad_expression, not_an_integer, over_length, bad_field}
 use Rattle.paper.specs.Texts.{bytes}
 use Rattle.paper.specs.Traces as Traces
 use Rattle.forms.specs.Digits.{digits, enough}
@@ -46,7 +46,7 @@ use Rattle.gs.specs.declared.Translated.{Translated}
 use Rattle.expressions.specs.declared.Evaluated.{Evaluated}
 use Rattle.expressions.specs.Answers.{evaluated, evaluated_number, evaluated_counted, evaluated_place, evaluated_value}
 use Rattle.arithmetic.specs.Values.{signed, sum, difference, product, quotient, remainder}
-use Rattle.promises.specs.Allowed.{Converts, Dates, Builds, LooksUp, Translates, Evaluates}
+use Rattle.promises.specs.Allowed.{Converts, Dates, Builds, Translates, Evaluates}
 use Rattle.promises.specs.Conversions as Numbers
 use Rattle.promises.specs.Dates.{Fit, fields_in, needed}
 use Rattle.promises.specs.Examples.{Row, writes, gives, lacks, dates, mistakes, reads, refuses, translates, stops, evaluates, fails, finds, indexes, spares, through, misfits, leads, self_naming, named_x, numbered_7, naming_a, named_256, named_256x, over_in_a_macro, letter_and_sign, sign_first, with_a_beginning, shortest_last, first_time, last_time, february_1900, march_1900, end_of_1999, end_of_2000, february_2000, Holds, All, examples}

@@ -1,7 +1,7 @@
 -- That the public functions beside the eight operations and `look_up_value` have one answer too, each by its own contract as a caller learns it.
 -- Those have it in their pages. `filter`'s `run` has it not: its contract leaves open what was read.
 use Rattle.std.specs.Prelude.{◌≡◌, List, ℕ}
-use Rattle.std.specs.Borrow.{Bor}
+use Rattle.std.specs.Borrow.{Bor, MutBor}
 use Rattle.paper.proofs.allowance.cap.Reads as cap
 use Rattle.paper.proofs.bytes.byte.Reads as byte
 use Rattle.paper.proofs.bytes.among.Reads as among
@@ -85,9 +85,13 @@ pub record One {Lifetimes Arguments Answer After Given Seen : Type 0} (Learnt : 
   pub one : (κs κs' : Lifetimes) (a a' : Arguments) (r r' : Answer) (after after' : After) → given a ≡ given a'
       → Learnt κs a r after → Learnt κs' a' r' after' → seen r after ≡ seen r' after'
 
--- What is given, argument by argument: of one that is lent, what it holds, wherever it lies; one that is not, and the rest, as they are
+-- What is given, argument by argument: of one that is lent, to be read or to be written to, what it holds, wherever it lies; one that is
+-- not, and the rest, as they are
 abbrev pub lent : {X A B : Type 0} → (A → B) → Bor X × A → X × B
 lent behind a = (a.0.now, behind a.1)
+
+abbrev pub lent_out : {X A B : Type 0} → (A → B) → MutBor X × A → X × B
+lent_out behind a = (a.0.now, behind a.1)
 
 abbrev pub plain : {X A B : Type 0} → (A → B) → X × A → X × B
 plain behind a = (a.0, behind a.1)
@@ -99,7 +103,7 @@ rest a = a
 abbrev pub answer_alone : {R S : Type 0} → R → S → R
 answer_alone r after = r
 
-abbrev pub answer_and : {R S : Type 0} → (S → Bor (List ℕ)) → R → S → R × List ℕ
+abbrev pub answer_and : {R S : Type 0} → (S → MutBor (List ℕ)) → R → S → R × List ℕ
 answer_and buffer r after = (r, (buffer after).now)
 
 pub record Determined : Type 0 where
@@ -115,8 +119,8 @@ pub record Determined : Type 0 where
   pub skip : One skip.Learnt (plain (lent rest)) answer_alone
   pub fault_number : One fault_number.Learnt rest answer_alone
   pub one_if : One one_if.Learnt rest answer_alone
-  pub put_if : One put_if.Learnt (plain (plain (plain (lent rest)))) (answer_and (λ (wanted, (byte, (at, (buf, _)))). buf))
-  pub claim : One claim.Learnt (plain (plain (lent rest))) (answer_and (λ (characters, (terminated, (buf, _))). buf))
+  pub put_if : One put_if.Learnt (plain (plain (plain (lent_out rest)))) (answer_and (λ (wanted, (byte, (at, (buf, _)))). buf))
+  pub claim : One claim.Learnt (plain (plain (lent_out rest))) (answer_and (λ (characters, (terminated, (buf, _))). buf))
   -- forms
   pub family_of : One family_of.Learnt rest answer_alone
   pub count_decimal : One count_decimal.Learnt rest answer_alone
@@ -126,7 +130,7 @@ pub record Determined : Type 0 where
   pub width_low_bits : One width_low_bits.Learnt rest answer_alone
   pub number_in : One number_in.Learnt rest answer_alone
   -- numbers
-  pub signed_decimal : One signed_decimal.Learnt (plain (lent rest)) (answer_and (λ (value, (out, _)). out))
+  pub signed_decimal : One signed_decimal.Learnt (plain (lent_out rest)) (answer_and (λ (value, (out, _)). out))
   -- calendar
   pub moment_of : One moment_of.Learnt rest answer_alone
   -- records: the answers of `part` and `name_at` are parts of the table, of which the bytes are seen
@@ -141,7 +145,7 @@ pub record Determined : Type 0 where
   pub kind_number : One kind_number.Learnt rest answer_alone
   pub pattern_of : One pattern_of.Learnt (lent rest) answer_alone
   -- variables: the answer of `value_of` is a part of a table too
-  pub key_tables : One key_tables.Learnt (lent (lent (lent rest))) (answer_and (λ (farm, (house, (keys, _))). keys))
+  pub key_tables : One key_tables.Learnt (lent (lent (lent_out rest))) (answer_and (λ (farm, (house, (keys, _))). keys))
   pub value_of : One value_of.Learnt (lent (lent rest)) (λ r after. r.now)
   pub find : One find.Learnt (lent (lent (lent (lent rest)))) answer_alone
   -- indexes
@@ -149,7 +153,7 @@ pub record Determined : Type 0 where
   pub search_index : One search_index.Learnt (lent (lent (lent rest))) answer_alone
   -- lookups: the answer of `bytes_given` is a part of the index
   pub judge :
-      One judge.Learnt (lent (lent (lent (plain (lent rest)))))
+      One judge.Learnt (lent (lent (lent (plain (lent_out rest)))))
       (answer_and (λ (farm, (house, (index, (indexed, (keys, _))))). keys))
   pub bytes_given : One bytes_given.Learnt (lent rest) (λ r after. r.now)
   pub find_through : One find_through.Learnt (lent (lent (lent (lent (lent rest))))) answer_alone
@@ -162,8 +166,8 @@ pub record Determined : Type 0 where
   pub flags_has : One flags_has.Learnt rest answer_alone
   -- runs
   pub plain_end : One plain_end.Learnt (lent rest) answer_alone
-  pub put : One put.Learnt (plain (plain (lent rest))) (answer_and (λ (byte, (to, (out, _))). out))
-  pub copy : One copy.Learnt (lent (plain (lent rest))) (answer_and (λ (given, (to, (out, _))). out))
+  pub put : One put.Learnt (plain (plain (lent_out rest))) (answer_and (λ (byte, (to, (out, _))). out))
+  pub copy : One copy.Learnt (lent (plain (lent_out rest))) (answer_and (λ (given, (to, (out, _))). out))
   -- references
   pub resolve : One resolve.Learnt (lent (lent (lent (lent (lent rest))))) answer_alone
   -- arithmetic
@@ -187,15 +191,15 @@ pub record Determined : Type 0 where
   pub leaf_number : One leaf_number.Learnt rest answer_alone
   pub leaf_named : One leaf_named.Learnt (lent (lent (lent (lent rest)))) answer_alone
   -- filter
-  pub answer : One answer.Learnt (lent (lent rest)) (answer_and (λ (text, (out, _)). out))
+  pub answer : One answer.Learnt (lent (lent_out rest)) (answer_and (λ (text, (out, _)). out))
   -- nosgoludd
-  pub nos_convert : One nos_convert.Learnt (plain (plain (lent rest))) (answer_and (λ (call, (value, (buf, _))). buf))
-  pub nos_convert_date : One nos_convert_date.Learnt (lent (lent (lent rest))) (answer_and (λ (time, (format, (buf, _))). buf))
+  pub nos_convert : One nos_convert.Learnt (plain (plain (lent_out rest))) (answer_and (λ (call, (value, (buf, _))). buf))
+  pub nos_convert_date : One nos_convert_date.Learnt (lent (lent (lent_out rest))) (answer_and (λ (time, (format, (buf, _))). buf))
   pub nos_read_unsigned : One nos_read_unsigned.Learnt (lent rest) answer_alone
   pub nos_check_table : One nos_check_table.Learnt (lent rest) answer_alone
-  pub nos_build_index : One nos_build_index.Learnt (lent (lent rest)) (answer_and (λ (table, (out, _)). out))
+  pub nos_build_index : One nos_build_index.Learnt (lent (lent_out rest)) (answer_and (λ (table, (out, _)). out))
   pub nos_look_up : One nos_look_up.Learnt (lent (lent (lent (lent rest)))) answer_alone
   pub nos_translate :
-      One nos_translate.Learnt (lent (lent (lent (lent (plain (plain (plain (lent rest))))))))
+      One nos_translate.Learnt (lent (lent (lent (lent (plain (plain (plain (lent_out rest))))))))
       (answer_and (λ (text, (farm, (house, (index, (indexed, (flags, (allowance, (out, _)))))))). out))
   pub nos_evaluate : One nos_evaluate.Learnt (lent (lent (lent rest))) answer_alone

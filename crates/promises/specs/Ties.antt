@@ -2,7 +2,7 @@
 -- its arguments, so that every input is taken.
 use Rattle.std.specs.Prelude.{Bool, not, List, ◌++◌, ◌≡◌, ℕ, eqb, length, drop}
 use contract.Lifetimes.{Lfts}
-use Rattle.std.specs.Borrow.{Bor}
+use Rattle.std.specs.Borrow.{Bor, MutBor}
 use Rattle.numbers.proofs.convert.Reads as convert
 use Rattle.paper.specs.declared.layings.Converted.{Converted}
 use Rattle.dates.proofs.convert_date.Reads as convert_date
@@ -44,12 +44,12 @@ use Rattle.promises.specs.Allowed.{Converts, Dates, Reads, Checks, Builds, Looks
 
 abbrev pub Convert : Type 0
 Convert =
-    (κs : Lfts 1) (call value : ℕ) (buf after : Bor (List ℕ)) (r : Converted)
+    (κs : Lfts 1) (call value : ℕ) (buf after : MutBor (List ℕ)) (r : Converted)
     → convert.Learnt κs (call, (value, (buf, tt))) r (call, (value, (after, tt))) → Converts call value buf.now r after.now
 
 abbrev pub ConvertDate : Type 0
 ConvertDate =
-    (κs : Lfts 3) (time format buf after : Bor (List ℕ)) (r : Converted)
+    (κs : Lfts 3) (time format : Bor (List ℕ)) (buf after : MutBor (List ℕ)) (r : Converted)
     → convert_date.Learnt κs (time, (format, (buf, tt))) r (time, (format, (after, tt))) → Dates time.now format.now buf.now r after.now
 
 abbrev pub ReadUnsigned : Type 0
@@ -62,7 +62,7 @@ CheckTable = (κs : Lfts 1) (table : Bor (List ℕ)) (r : Checked) → check_tab
 
 abbrev pub BuildIndex : Type 0
 BuildIndex =
-    (κs : Lfts 2) (table out after : Bor (List ℕ)) (r : Built)
+    (κs : Lfts 2) (table : Bor (List ℕ)) (out after : MutBor (List ℕ)) (r : Built)
     → build_index.Learnt κs (table, (out, tt)) r (table, (after, tt)) → Builds table.now out.now r after.now
 
 abbrev pub LookUp : Type 0
@@ -79,7 +79,7 @@ LookUpValue =
 
 abbrev pub Translate : Type 0
 Translate =
-    (κs : Lfts 4) (text farm house index : Bor (List ℕ)) (indexed : Bool) (flags : Flags) (allowance : ℕ) (out after : Bor (List ℕ)) (r : Translated)
+    (κs : Lfts 4) (text farm house index : Bor (List ℕ)) (indexed : Bool) (flags : Flags) (allowance : ℕ) (out after : MutBor (List ℕ)) (r : Translated)
     → translate.Learnt κs (text, (farm, (house, (index, (indexed, (flags, (allowance, (out, tt)))))))) r
     (text, (farm, (house, (index, (indexed, (flags, (allowance, (after, tt))))))))
     → Translates text.now farm.now house.now (given_by indexed index.now) flags.0 allowance out.now r after.now
@@ -97,7 +97,7 @@ pub record FaceConverts (call value : ℕ) (buf : List ℕ) (r : NosAnswer) (aft
 
 abbrev pub NosConvert : Type 0
 NosConvert =
-    (κs : Lfts 1) (call value : ℕ) (buf after : Bor (List ℕ)) (r : NosAnswer)
+    (κs : Lfts 1) (call value : ℕ) (buf after : MutBor (List ℕ)) (r : NosAnswer)
     → nos_convert.Learnt κs (call, (value, (buf, tt))) r (call, (value, (after, tt))) → FaceConverts call value buf.now r after.now
 
 pub record FaceDates (time format buf : List ℕ) (r : NosAnswer) (after : List ℕ) : Type 0 where
@@ -107,7 +107,7 @@ pub record FaceDates (time format buf : List ℕ) (r : NosAnswer) (after : List 
 
 abbrev pub NosConvertDate : Type 0
 NosConvertDate =
-    (κs : Lfts 3) (time format buf after : Bor (List ℕ)) (r : NosAnswer)
+    (κs : Lfts 3) (time format : Bor (List ℕ)) (buf after : MutBor (List ℕ)) (r : NosAnswer)
     → nos_convert_date.Learnt κs (time, (format, (buf, tt))) r (time, (format, (after, tt)))
     → FaceDates time.now format.now buf.now r after.now
 
@@ -137,7 +137,7 @@ pub record FaceBuilds (table out : List ℕ) (r : NosAnswer) (after : List ℕ) 
 
 abbrev pub NosBuildIndex : Type 0
 NosBuildIndex =
-    (κs : Lfts 2) (table out after : Bor (List ℕ)) (r : NosAnswer)
+    (κs : Lfts 2) (table : Bor (List ℕ)) (out after : MutBor (List ℕ)) (r : NosAnswer)
     → nos_build_index.Learnt κs (table, (out, tt)) r (table, (after, tt)) → FaceBuilds table.now out.now r after.now
 
 -- there is no index at 0, and one at every other number
@@ -162,7 +162,7 @@ pub record FaceTranslates (text farm house : List ℕ) (given : Given) (flags al
 
 abbrev pub NosTranslate : Type 0
 NosTranslate =
-    (κs : Lfts 4) (text farm house index : Bor (List ℕ)) (indexed flags allowance : ℕ) (out after : Bor (List ℕ)) (r : NosAnswer)
+    (κs : Lfts 4) (text farm house index : Bor (List ℕ)) (indexed flags allowance : ℕ) (out after : MutBor (List ℕ)) (r : NosAnswer)
     → nos_translate.Learnt κs (text, (farm, (house, (index, (indexed, (flags, (allowance, (out, tt)))))))) r
     (text, (farm, (house, (index, (indexed, (flags, (allowance, (after, tt))))))))
     → FaceTranslates text.now farm.now house.now (given_at indexed index.now) flags allowance out.now r after.now
@@ -180,32 +180,32 @@ NosEvaluate =
 -- The program's answer to a text: its translation, or the line of its refusal, at the start of the buffer, and the rest of the buffer kept
 abbrev pub ProgramAnswer : Type 0
 ProgramAnswer =
-    (κs : Lfts 2) (text out after : Bor (List ℕ)) (r : ℕ)
+    (κs : Lfts 2) (text : Bor (List ℕ)) (out after : MutBor (List ℕ)) (r : ℕ)
     → program.Learnt κs (text, (out, tt)) r (text, (after, tt))
     → (r ≡ length (answer_to text.now)) × (after.now ≡ answer_to text.now ++ drop (length (answer_to text.now)) out.now)
 
 -- nothing is asked of any argument
 pub record Any : Type 0 where
-  pub convert : (κs : Lfts 1) (call value : ℕ) (buf : Bor (List ℕ)) → convert.Asked κs (call, (value, (buf, tt)))
-  pub convert_date : (κs : Lfts 3) (time format buf : Bor (List ℕ)) → convert_date.Asked κs (time, (format, (buf, tt)))
+  pub convert : (κs : Lfts 1) (call value : ℕ) (buf : MutBor (List ℕ)) → convert.Asked κs (call, (value, (buf, tt)))
+  pub convert_date : (κs : Lfts 3) (time format : Bor (List ℕ)) (buf : MutBor (List ℕ)) → convert_date.Asked κs (time, (format, (buf, tt)))
   pub read_unsigned : (κs : Lfts 1) (text : Bor (List ℕ)) (whole : Bool) (limit : ℕ) → read_unsigned.Asked κs (text, (whole, (limit, tt)))
   pub check_table : (κs : Lfts 1) (table : Bor (List ℕ)) → check_table.Asked κs (table, tt)
-  pub build_index : (κs : Lfts 2) (table out : Bor (List ℕ)) → build_index.Asked κs (table, (out, tt))
+  pub build_index : (κs : Lfts 2) (table : Bor (List ℕ)) (out : MutBor (List ℕ)) → build_index.Asked κs (table, (out, tt))
   pub look_up : (κs : Lfts 3) (farm house index : Bor (List ℕ)) (indexed : Bool) (name : Bor (List ℕ))
       → look_up.Asked κs (farm, (house, (index, (indexed, (name, tt)))))
   pub look_up_value : (κs : Lfts 3) (farm house index : Bor (List ℕ)) (indexed : Bool) (name : Bor (List ℕ))
       → look_up_value.Asked κs (farm, (house, (index, (indexed, (name, tt)))))
-  pub translate : (κs : Lfts 4) (text farm house index : Bor (List ℕ)) (indexed : Bool) (flags : Flags) (allowance : ℕ) (out : Bor (List ℕ))
+  pub translate : (κs : Lfts 4) (text farm house index : Bor (List ℕ)) (indexed : Bool) (flags : Flags) (allowance : ℕ) (out : MutBor (List ℕ))
       → translate.Asked κs (text, (farm, (house, (index, (indexed, (flags, (allowance, (out, tt))))))))
   pub evaluate : (κs : Lfts 2) (text farm house : Bor (List ℕ)) (allowance : ℕ) → evaluate.Asked κs (text, (farm, (house, (allowance, tt))))
-  pub nos_convert : (κs : Lfts 1) (call value : ℕ) (buf : Bor (List ℕ)) → nos_convert.Asked κs (call, (value, (buf, tt)))
-  pub nos_convert_date : (κs : Lfts 3) (time format buf : Bor (List ℕ)) → nos_convert_date.Asked κs (time, (format, (buf, tt)))
+  pub nos_convert : (κs : Lfts 1) (call value : ℕ) (buf : MutBor (List ℕ)) → nos_convert.Asked κs (call, (value, (buf, tt)))
+  pub nos_convert_date : (κs : Lfts 3) (time format : Bor (List ℕ)) (buf : MutBor (List ℕ)) → nos_convert_date.Asked κs (time, (format, (buf, tt)))
   pub nos_read_unsigned : (κs : Lfts 1) (text : Bor (List ℕ)) (whole limit : ℕ) → nos_read_unsigned.Asked κs (text, (whole, (limit, tt)))
   pub nos_check_table : (κs : Lfts 1) (table : Bor (List ℕ)) → nos_check_table.Asked κs (table, tt)
-  pub nos_build_index : (κs : Lfts 2) (table out : Bor (List ℕ)) → nos_build_index.Asked κs (table, (out, tt))
+  pub nos_build_index : (κs : Lfts 2) (table : Bor (List ℕ)) (out : MutBor (List ℕ)) → nos_build_index.Asked κs (table, (out, tt))
   pub nos_look_up : (κs : Lfts 3) (name farm house index : Bor (List ℕ)) (indexed : ℕ)
       → nos_look_up.Asked κs (name, (farm, (house, (index, (indexed, tt)))))
-  pub nos_translate : (κs : Lfts 4) (text farm house index : Bor (List ℕ)) (indexed flags allowance : ℕ) (out : Bor (List ℕ))
+  pub nos_translate : (κs : Lfts 4) (text farm house index : Bor (List ℕ)) (indexed flags allowance : ℕ) (out : MutBor (List ℕ))
       → nos_translate.Asked κs (text, (farm, (house, (index, (indexed, (flags, (allowance, (out, tt))))))))
   pub nos_evaluate : (κs : Lfts 2) (text farm house : Bor (List ℕ)) (allowance : ℕ) → nos_evaluate.Asked κs (text, (farm, (house, (allowance, tt))))
-  pub program : (κs : Lfts 2) (text out : Bor (List ℕ)) → program.Asked κs (text, (out, tt))
+  pub program : (κs : Lfts 2) (text : Bor (List ℕ)) (out : MutBor (List ℕ)) → program.Asked κs (text, (out, tt))
