@@ -1,5 +1,5 @@
 -- `translate` meets its contract: 18 for the text, 18 and 13 for the tables, 20 for the index, then the reading.
-use mathlib.Core.Bool.{Bool, true, false}
+use mathlib.Core.Bool.{Bool}
 use mathlib.Core.Path.{◌≡◌, refl, ap, sym, subst, ◌∙◌}
 use mathlib.Core.List.{List}
 use Prim.Native.Nat.{ℕ, ◌≤◌}
@@ -8,8 +8,7 @@ use Rattle.paper.specs.Refusals.{longest}
 use Rattle.paper.specs.Traces.{bytes, answer, allowed}
 use Rattle.indexes.specs.Indexes.{Given, given_by, fits}
 use Rattle.lookups.specs.inner.Through.{to_lay, Leads}
-use Rattle.lookups.specs.declared.Judged.TheVariants as Judgement
-use Rattle.lookups.proofs.Judging.{Ready, ready, refused_table, refused_index}
+use Rattle.lookups.proofs.Judging.{ready, refused_table, refused_index}
 use Rattle.gs.specs.Translations.{reading_of, translated_by, translated_over, left_by, translated, out_after}
 use Rattle.gs.proofs.Orders.{too_long, over}
 use Rattle.gs.specs.declared.Translated.{Translated}

@@ -4,10 +4,7 @@ use Rattle.std.proofs.lemmas.List.Edits.{sets}
 use Rattle.paper.specs.Traces.{Trace, faults, gives, asks, spends, bytes, finished, refused, run}
 use Rattle.paper.specs.declared.faults.Fault.TheVariants as Faults
 use Rattle.forms.specs.Calls.{decimal_of}
-use Rattle.reader.specs.Reading.{reading}
-use Rattle.reader.specs.declared.Reading.TheVariants.{Refused}
 use Rattle.records.specs.Kinds.{pattern}
-use Rattle.records.specs.declared.kinds.Kind.TheVariants as Kinds
 use Rattle.variables.specs.Holdings.{part_of}
 use Rattle.gs.specs.Readings.{Expand, gives_all}
 use Rattle.references.specs.declared.Referred.{Referred}

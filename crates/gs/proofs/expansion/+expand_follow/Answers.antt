@@ -24,8 +24,6 @@ use Rattle.symbols.specs.declared.forms.Symbol.{Symbol}
 use Rattle.symbols.proofs.Places.{Stands, quote_of, symbol_stands}
 use Rattle.gs.specs.Readings.{Expand, expands, whole_text}
 use Rattle.gs.specs.inner.Steps.{Came, Read, piece_of, length_in}
-use Rattle.gs.specs.declared.steps.Expanded.{Expanded}
-use Rattle.gs.specs.declared.steps.Expanded.TheVariants.{Refused}
 use Rattle.gs.specs.declared.steps.Progress.{Progress}
 use Rattle.gs.proofs.Pieces.{laid_at_lem, value_small}
 use Rattle.gs.proofs.PlainRuns.{at_run}

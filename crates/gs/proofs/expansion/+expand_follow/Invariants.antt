@@ -1,6 +1,6 @@
 -- `expand` and `follow` end: a level of a text calls a reference, and a macro's reference a level deeper.
 -- The loop of `expand` walks through its text, symbol by symbol.
-use Prim.Native.Nat.{ℕ, ◌+◌, ◌-◌, ◌*◌}
+use Prim.Native.Nat.{◌+◌, ◌-◌, ◌*◌}
 use lib.ListN.{length}
 use Rattle.variables.specs.Names.{names_of}
 use Rattle.gs.specs.Readings.{expands}
