@@ -7,7 +7,7 @@ use native.Mathlib.Decide.{dec_lt}
 use native.Mathlib.Omega.{arith}
 use lib.ListN.{length, take, drop, length-append}
 use lib.Seq.{take_at, drop_at}
-use Rattle.paper.specs.Answers.{in_text, Answer, Grown, GrownWhole}
+use Rattle.paper.specs.Answers.{in_text, Answer, GrownWhole}
 use Rattle.paper.specs.Layings.{terminator, room_for, laying, laying_of, laid_in}
 use Rattle.paper.specs.Refusals.{no_room}
 use Rattle.paper.proofs.Choice.{below, not_below}

@@ -1,11 +1,8 @@
 -- `as_name` meets its contract: its test is the definition's, and then what the keys lead to, or the index.
-use mathlib.Core.List.{List}
-use mathlib.Core.Path.{◌≡◌, refl, ap, sym, ◌∙◌}
-use Prim.Native.Nat.{ℕ}
+use mathlib.Core.Path.{refl, ap, sym, ◌∙◌}
 use Rattle.paper.specs.declared.Holder.TheVariants.{House}
 use Rattle.paper.proofs.Choice.{same, other}
-use Rattle.variables.specs.Tables.{Sought}
-use Rattle.variables.specs.Holdings.{Holding, held_in}
+use Rattle.variables.specs.Holdings.{held_in}
 use Rattle.variables.specs.inner.Keys.{sought_by}
 use Rattle.indexes.specs.inner.Halving.{searched}
 use Rattle.lookups.proofs.Handing.{by_keys, by_index}

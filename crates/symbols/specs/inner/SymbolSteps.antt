@@ -1,5 +1,5 @@
 -- What the functions that find one symbol give, and the bytes that stand for themselves.
-use Rattle.std.specs.Prelude.{◌≡◌, Bool, cond, not, ◌&&◌, ◌||◌, List, ℕ, ◌≤◌, ◌<◌, ltb, eqb, length, get_or}
+use Rattle.std.specs.Prelude.{◌≡◌, Bool, cond, not, ◌&&◌, ◌||◌, List, ℕ, ltb, eqb, get_or}
 use Rattle.paper.specs.Bytes.{ends}
 use Rattle.paper.specs.declared.faults.Fault.TheVariants.{BadString}
 use Rattle.symbols.specs.Flags.{has}

@@ -1,12 +1,9 @@
 -- `put_decimal` meets its contract: what the library writes of a number is its decimal, of at most 20 digits.
-use mathlib.Core.Path.{◌≡◌, ap, subst, ◌∙◌}
-use mathlib.Core.List.{List}
-use Prim.Native.Nat.{ℕ}
+use mathlib.Core.Path.{ap, ◌∙◌}
 use native.Mathlib.Omega.{arith}
 use lib.ListN.{length}
 use Rattle.std.proofs.lemmas.Fmt.{length-decimal-le}
-use Rattle.filter.specs.Lines.{decimal}
-use Rattle.filter.proofs.LineLaws.{Put, put_same, written}
+use Rattle.filter.proofs.LineLaws.{put_same, written}
 use Rattle.filter.proofs.lines.put_decimal.Goals as goal
 
 pub put-requires : goal.put-requires

@@ -1,19 +1,12 @@
 -- `put_digits` meets its contract: at the loop's head the digits that are done stand where they belong.
-use mathlib.Core.Path.{◌≡◌, ap, ap₂, sym, subst, ◌∙◌}
-use mathlib.Core.Bool.{Bool, cond}
-use mathlib.Core.List.{List, [], ◌∷◌, ◌++◌, append_assoc}
-use Prim.Native.Nat.{ℕ, suc, ◌+◌, ◌-◌, ◌/◌, ◌%◌, ◌^◌, ◌≤◌, ◌<◌}
-use native.Mathlib.Nat.{pow-zero, pow-suc, div-one, div-div-eq-div-mul}
-use native.Mathlib.Numerals.{add-one}
-use native.Mathlib.Omega.{arith}
-use lib.Dec.{eqb}
-use lib.ListN.{length, take-append-drop, take, drop, set, length-append, length-drop}
-use lib.Seq.{sets, length-take-le}
-use Rattle.forms.specs.Digits.{glyph, gap, digits}
+use mathlib.Core.Path.{◌≡◌}
+use mathlib.Core.List.{◌++◌}
+use Prim.Native.Nat.{◌+◌, ◌-◌, ◌/◌, ◌^◌, ◌≤◌}
+use lib.ListN.{take, drop}
+use Rattle.forms.specs.Digits.{digits}
 use Rattle.forms.specs.Strings.{radix}
-use Rattle.numbers.specs.inner.Steps.{spread_of, gap_before}
-use Rattle.numbers.proofs.Laws.{group_of, spread_zero, spread_suc, spread_mono, digits_length, gap_by_group, group_next}
-use Rattle.numbers.proofs.Buffer.{prepend}
+use Rattle.numbers.specs.inner.Steps.{spread_of}
+use Rattle.numbers.proofs.Laws.{group_of}
 use Rattle.numbers.proofs.digits.put_digits.Given as goal
 
 abbrev pub invariant-loop-done : goal.invariant-loop-done

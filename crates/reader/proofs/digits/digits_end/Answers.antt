@@ -1,9 +1,7 @@
 -- `digits_end` meets its contract. The loop's invariant: only digits were passed. The measure is what is left of the length.
 use mathlib.Core.Path.{refl}
-use Prim.Native.Nat.{◌-◌}
 use native.Mathlib.Omega.{arith}
-use lib.ListN.{length}
-use Rattle.reader.proofs.Laws.{run_none, run_end, Passed, one_passed, all_passed}
+use Rattle.reader.proofs.Laws.{run_none, run_end, one_passed, all_passed}
 use Rattle.reader.proofs.digits.digits_end.Goals as goal
 
 pub loop-at-init : goal.loop-at-init

@@ -2,13 +2,13 @@
 -- measure is what is left of the length.
 use mathlib.Core.List.{List, []}
 use mathlib.Core.Path.{◌≡◌, refl, ap, ◌∙◌}
-use Prim.Native.Nat.{ℕ, ◌+◌, ◌*◌, ◌-◌, ◌<◌, ◌≤◌}
+use Prim.Native.Nat.{ℕ, ◌+◌, ◌*◌, ◌<◌, ◌≤◌}
 use native.Mathlib.Nat.{mul-le-mul}
 use native.Mathlib.Omega.{arith}
 use lib.ListN.{length, get_or, drop}
 use Rattle.reader.specs.Reading.{digit, run, worth}
 use Rattle.reader.specs.inner.Steps.{cut, DigitIn}
-use Rattle.reader.proofs.Laws.{run_more, run_none, run_end, Passed, one_passed, all_passed, cut_settled}
+use Rattle.reader.proofs.Laws.{run_more, run_none, run_end, one_passed, all_passed, cut_settled}
 use Rattle.reader.proofs.digits.run_from.Invariants.{Reached}
 use Rattle.reader.proofs.digits.run_from.Goals as goal
 

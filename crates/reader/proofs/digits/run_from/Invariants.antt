@@ -1,14 +1,11 @@
 -- `run_from` meets its contract. The loop's invariant, `Reached`: only digits were passed, and the value is what they are worth. The
 -- measure is what is left of the length.
-use mathlib.Core.List.{List, []}
-use mathlib.Core.Path.{◌≡◌, refl, ap, ◌∙◌}
-use Prim.Native.Nat.{ℕ, ◌+◌, ◌*◌, ◌-◌, ◌<◌, ◌≤◌}
-use native.Mathlib.Nat.{mul-le-mul}
-use native.Mathlib.Omega.{arith}
-use lib.ListN.{length, get_or, drop}
-use Rattle.reader.specs.Reading.{digit, run, worth}
-use Rattle.reader.specs.inner.Steps.{cut, DigitIn}
-use Rattle.reader.proofs.Laws.{run_more, run_none, run_end, Passed, one_passed, all_passed, cut_settled}
+use mathlib.Core.List.{List}
+use mathlib.Core.Path.{◌≡◌}
+use Prim.Native.Nat.{ℕ, ◌-◌, ◌<◌}
+use lib.ListN.{length, drop}
+use Rattle.reader.specs.Reading.{run, worth}
+use Rattle.reader.proofs.Laws.{Passed}
 use Rattle.reader.proofs.digits.run_from.Given as goal
 
 pub record Reached (text : List ℕ) (first base value at : ℕ) : Type 0 where

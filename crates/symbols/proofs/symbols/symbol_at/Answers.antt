@@ -1,17 +1,16 @@
 -- `symbol_at` meets its contract: its tests are the definition's, in a row. Where it goes on behind its place, that stands inside the text.
-use mathlib.Core.Bool.{true, false, cond, and-eq-true_iff}
+use mathlib.Core.Bool.{true, false, and-eq-true_iff}
 use mathlib.Core.List.{List}
-use mathlib.Core.Path.{◌≡◌, sym, ◌∙◌}
+use mathlib.Core.Path.{◌≡◌, sym}
 use Prim.Native.Nat.{ℕ, ◌<◌}
 use native.Mathlib.Omega.{arith}
 use borrow.Author.Tests.{eq-eqb, ne_eqb, ltb-true}
-use lib.Dec.{ltb, eqb}
+use lib.Dec.{ltb}
 use lib.ListN.{length, get_or}
 use Rattle.paper.specs.Bytes.{ends}
 use Rattle.paper.proofs.Runs.{inside, not_zero}
-use Rattle.symbols.specs.inner.SymbolSteps.{unmarked, other}
-use Rattle.symbols.specs.Symbols.{active, barred, referred, symbol_at}
-use Rattle.symbols.specs.declared.forms.Mode.{Mode}
+use Rattle.symbols.specs.inner.SymbolSteps.{unmarked}
+use Rattle.symbols.specs.Symbols.{active}
 use Rattle.symbols.proofs.Laws.{symbol_tested, unmarked_byte}
 use Rattle.symbols.proofs.symbols.symbol_at.Goals as goal
 
