@@ -25,6 +25,7 @@ pub enum Converted {
 // Claims the room for a string of so many characters, which the caller then writes: the answer is the whole string's, and its zero byte
 // stands where it is to be, if there is one. Where there is no room, nothing changes. Both answers are made at one end: with a `return`
 // for one of them, the compiler leaves the answer in memory.
+#[tactic(auto, using(std::proofs::lemmas::Bool::Decides::nat_tests, crate::proofs::Stores::sets_if), unfolding(crate::specs::Layings::laying_of, crate::specs::inner::Claims::claimed_in))]
 pub fn claim(characters: u32, terminated: bool, buf: &mut [u8]) -> Converted
     ensures answer { result ≡ converted_by (laying_of characters terminated (length buf.old)) }
     ensures buffer { buf.new ≡ claimed_in characters terminated buf.old }

@@ -24,6 +24,7 @@ fn goes_on(text: &[u8], whole: bool, end: usize) -> bool
 }
 
 // The digits of `run` stand from `first` on; the number starts at `start`.
+#[tactic(auto, using(std::proofs::lemmas::Bool::Decides::nat_tests), unfolding(crate::specs::Reading::judged))]
 pub(crate) fn judge(
     text: &[u8],
     whole: bool,

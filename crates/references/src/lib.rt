@@ -87,6 +87,7 @@ fn refusal_of(answer: Reading) -> u8
 
 // What the content of a reference stands for, over two tables, some keys and an index: a value becomes a byte, and over 255 it is refused;
 // what the reader refuses goes the name path.
+#[tactic(auto, using(std::proofs::lemmas::Bool::Decides::nat_tests), unfolding(crate::specs::References::referred_by))]
 pub fn resolve<'a>(
     content: &[u8],
     farm: &'a [u8],

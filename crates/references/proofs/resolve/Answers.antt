@@ -28,20 +28,3 @@ by_name name farm house keys index answer x y number r a e n h =
 pub returns-in_default : goal.returns-in_default
 returns-in_default c =
     by_name _ _ _ _ _ _ _ _ _ _ c.read_unsigned-answer.ensures c.in_default.is c.refusal_of.ensures c.as_name.ensures
-
-module _ (name farm house keys index : List ℕ) (answer : Reading) (n : Valued) (a : answer ≡ reading name true no_limit) (v : answer ≡ Value n) where
-  valued : cond (over_code n.value) CodeOver255 (Number n.value) ≡ referred_by farm house keys index name
-  unfolding referred_by
-  valued = ap (λ r. referred_as r (matched_as (match_as farm house (sought_through farm house keys index name)))) (sym v ∙ a)
-
-  over : greatest_code < n.value → CodeOver255 ≡ referred_by farm house keys index name
-  over h = below greatest_code n.value _ _ h refl ∙ valued
-
-  byte : n.value ≤ greatest_code → Number n.value ≡ referred_by farm house keys index name
-  byte h = not_below greatest_code n.value _ _ h refl ∙ valued
-
-pub returns-then-n-gt-GREATEST_CODE : goal.returns-then-n-gt-GREATEST_CODE
-returns-then-n-gt-GREATEST_CODE c = over _ _ _ _ _ _ _ c.read_unsigned-answer.ensures c.in-Value.is c.if-n-gt-GREATEST_CODE.true
-
-pub returns : goal.returns
-returns c = byte _ _ _ _ _ _ _ c.read_unsigned-answer.ensures c.in-Value.is c.if-n-gt-GREATEST_CODE.false
