@@ -48,6 +48,7 @@ fn width_number(n: u32) -> Width
 }
 
 // &D0 to &E8, each family from its narrowest width to its widest.
+#[tactic(auto, using(std::proofs::lemmas::Bool::Decides::nat_tests), unfolding(crate::specs::Calls::ranged))]
 fn in_range(c: u32) -> Family
     ensures { form_of result ≡ ranged c }
 {

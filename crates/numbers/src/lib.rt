@@ -20,6 +20,7 @@ use paper::{TextPlace, UNKNOWN_CALL, one_if};
 
 // One of the calls by its number: the string of `value` at the start of `buf`, or a refusal that changes nothing. Each family has
 // a call of its own, so that the compiler makes code for each, with no test of what its form is.
+#[tactic(auto, unfolding(crate::specs::Conversions::answer_of, crate::specs::Conversions::buffer_of))]
 pub fn convert(call: u32, value: u32, buf: &mut [u8]) -> Converted
     ensures answer { result ≡ converted_by (answer_of call value (length buf.old)) }
     ensures buffer { buf.new ≡ buffer_of call value buf.old }

@@ -100,6 +100,7 @@ fn other(text: &[u8], flags: Flags, mode: Mode, at: usize) -> Symbol
 }
 
 // The symbol at a place, any place: past the slice's end the text has ended, so that nothing behind such a place is read or counted.
+#[tactic(auto, using(crate::proofs::Laws::symbol_tested, crate::proofs::Laws::unmarked_byte), unfolding(crate::specs::Symbols::active))]
 pub fn symbol_at(text: &[u8], flags: Flags, mode: Mode, at: usize) -> Symbol
     ensures { result ≡ symbol_at text.now flags.0 mode at }
 {

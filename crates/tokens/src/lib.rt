@@ -118,6 +118,7 @@ fn number_at(text: &[u8], at: usize) -> Lexed
     }
 }
 
+#[tactic(auto, using(std::proofs::lemmas::Bool::Decides::nat_tests), unfolding(crate::specs::Tokens::single))]
 fn single(c: u8) -> Token
     ensures { result ≡ single c }
 {
