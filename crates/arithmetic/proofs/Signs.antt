@@ -1,6 +1,7 @@
--- The two shapes of the number that a pattern stands for, and the pattern of a number that is turned around.
-use Rattle.std.proofs.Common.{◌≡◌, ℕ, zero, suc, ◌-◌, ◌<◌, ◌≤◌, true, false, ltb, ℤ, pos, negsuc, neg_ℤ, nat_abs, refl, arith, ltb-false, ltb-true}
-use lib.Signed.{lt_z}
+-- The two shapes of the number that a pattern stands for, and what the language's casts between patterns and numbers give.
+use Rattle.std.proofs.Common.{◌≡◌, ℕ, zero, suc, ◌-◌, ◌<◌, ◌≤◌, ltb, ℤ, pos, negsuc, neg_ℤ, sym, refl, ap, ◌∙◌, mod-eq_of_lt, arith, ltb-false, ltb-true, le-ltb, w32, to_z, of_z}
+use Rattle.std.proofs.lemmas.Int.{to_z_pos, of_z-to_z}
+use lib.Signed.{mag}
 use Rattle.paper.proofs.Choice.{either}
 use Rattle.arithmetic.specs.Values.{signed, wrapped, difference}
 
@@ -9,17 +10,19 @@ pub by_sign {κ} : (P : ℤ → Type κ) (p : ℕ) → (p < 2147483648 → P (po
 unfolding signed
 by_sign P p f g = either P (ltb p 2147483648) (λ t. f (ltb-true p 2147483648 t)) (λ t. g (ltb-false p 2147483648 t))
 
--- the same of a number that is known to be negative, and of one that is known not to be
-pub if-negative {κ} : (P : ℤ → Type κ) (p : ℕ) → lt_z (signed p) (pos 0) ≡ true → (2147483648 ≤ p → P (negsuc (4294967295 - p))) → P (signed p)
-if-negative P p t f = by_sign (λ z. lt_z z (pos 0) ≡ true → P z) p (λ _ t. absurd (omega (arith, ltb-true p 0 t))) (λ high _. f high) t
+-- a pattern as it is cast, and cast again from what fits
+pub cast : (p : ℕ) → p < 4294967296 → to_z w32 p ≡ signed p
+cast p fits = by_sign (λ z. to_z w32 p ≡ z) p (λ low. to_z_pos w32 p low) (λ high. rw (le-ltb p 2147483648 high) (ap negsuc (omega arith)))
 
-pub if-positive {κ} : (P : ℤ → Type κ) (p : ℕ) → lt_z (signed p) (pos 0) ≡ false → (p < 2147483648 → P (pos p)) → P (signed p)
-if-positive P p t f =
-    by_sign (λ z. lt_z z (pos 0) ≡ false → P z) p (λ low _. f low) (λ _ t. let z : ◌≡◌ {A = ℕ} 0 1 = cc in absurd (omega arith)) t
+pub cast_again : (p : ℕ) (z : ℤ) → p < 4294967296 → z ≡ to_z w32 p → to_z w32 (of_z w32 z) ≡ signed p
+cast_again p z fits e = ap (λ z. to_z w32 (of_z w32 z)) e ∙ ap (to_z w32) (of_z-to_z w32 p fits) ∙ cast p fits
 
--- the size of a number other than zero is not zero
-pub some_size : (p : ℕ) → (p ≡ 0 → ⊥) → 0 < nat_abs (signed p)
-some_size p h = by_sign (λ z. 0 < nat_abs z) p (λ _. omega (arith, h)) (λ _. omega arith)
+-- a number that fits as it is cast back
+pub cast_back : (z : ℤ) → mag z < 2147483648 → of_z w32 (to_z w32 (of_z w32 z)) ≡ wrapped z
+cast_back (pos n) fits = let low : n < 4294967296 = omega arith in of_z-to_z w32 n low ∙ sym (mod-eq_of_lt low)
+cast_back (negsuc n) fits =
+    let low : n < 4294967296 = omega arith in
+    of_z-to_z w32 (4294967296 - suc n) (omega arith) ∙ omega (arith, mod-eq_of_lt low)
 
 -- zero less a pattern is the pattern of the number turned around
 pub turned : (n : ℕ) → n < 4294967296 → difference 0 n ≡ wrapped (neg_ℤ (pos n))

@@ -1,5 +1,7 @@
 -- The operators: how tightly each binds, which stand before one operand, and which divide.
-use Rattle.std.specs.Prelude.{ℕ, Bool, true, false}
+use Rattle.std.specs.Prelude.{ℕ, Bool, true, false, Option, Some, None}
+use Rattle.arithmetic.specs.declared.operators.Level.{Level}
+use Rattle.arithmetic.specs.declared.operators.Level.TheVariants as Levels
 use Rattle.arithmetic.specs.declared.operators.Operator.{Operator}
 use Rattle.arithmetic.specs.declared.operators.Operator.TheVariants.{Not, Product, Sum, Relation, And, Either}
 use Rattle.arithmetic.specs.declared.operators.Product.TheVariants.{Times, Over, Mod}
@@ -12,6 +14,18 @@ level_of (Sum s) = 2
 level_of (Relation r) = 3
 level_of And = 4
 level_of (Either e) = 5
+
+-- the levels as the code names them, and the number for an operator that stands at none
+abbrev pub level_number : Level → ℕ
+level_number Levels.Term = 1
+level_number Levels.Sum = 2
+level_number Levels.Relation = 3
+level_number Levels.Conjunction = 4
+level_number Levels.Disjunction = 5
+
+abbrev pub number_of : Option Level → ℕ
+number_of (Some level) = level_number level
+number_of None = 0
 
 abbrev pub loosest : ℕ
 loosest = 5

@@ -1,6 +1,6 @@
 // The operators of expressions, by how tightly they bind, and which stand before one operand.
 ghost use Rattle.std.specs.Prelude.{◌≡◌};
-ghost use Rattle.arithmetic.specs.Operators.{level_of, stands_alone, divides};
+ghost use Rattle.arithmetic.specs.Operators.{level_of, number_of, stands_alone, divides};
 
 #[derive(Clone, Copy)]
 pub enum Product {
@@ -34,6 +34,16 @@ pub enum Either {
     Eor,
 }
 
+// The levels of the operators between two operands, the tightest first.
+#[derive(Clone, Copy, PartialEq, Eq)]
+pub enum Level {
+    Term,
+    Sum,
+    Relation,
+    Conjunction,
+    Disjunction,
+}
+
 #[derive(Clone, Copy)]
 pub enum Operator {
     Not,
@@ -45,17 +55,17 @@ pub enum Operator {
 }
 
 impl Operator {
-    // The level of an operator between two operands, the tightest 1; NOT stands between none.
-    pub fn level(self) -> u8
-        ensures { result ≡ level_of self }
+    // The level at which an operator stands between two operands; NOT stands between none.
+    pub fn level(self) -> Option<Level>
+        ensures { number_of result ≡ level_of self }
     {
         match self {
-            Operator::Not => 0,
-            Operator::Product(_) => 1,
-            Operator::Sum(_) => 2,
-            Operator::Relation(_) => 3,
-            Operator::And => 4,
-            Operator::Either(_) => 5,
+            Operator::Not => None,
+            Operator::Product(_) => Some(Level::Term),
+            Operator::Sum(_) => Some(Level::Sum),
+            Operator::Relation(_) => Some(Level::Relation),
+            Operator::And => Some(Level::Conjunction),
+            Operator::Either(_) => Some(Level::Disjunction),
         }
     }
 
@@ -64,12 +74,9 @@ impl Operator {
         ensures { result ≡ stands_alone self }
     {
         match self {
-            Operator::Not => true,
-            Operator::Product(_) => false,
-            Operator::Sum(_) => true,
-            Operator::Relation(_) => false,
-            Operator::And => false,
-            Operator::Either(_) => false,
+            Operator::Not | Operator::Sum(_) => true,
+            Operator::Product(_) | Operator::Relation(_) | Operator::And | Operator::Either(_) =>
+                false,
         }
     }
 
@@ -78,16 +85,13 @@ impl Operator {
         ensures { result ≡ divides self }
     {
         match self {
-            Operator::Not => false,
-            Operator::Product(product) => match product {
-                Product::Times => false,
-                Product::Over => true,
-                Product::Mod => true,
-            },
-            Operator::Sum(_) => false,
-            Operator::Relation(_) => false,
-            Operator::And => false,
-            Operator::Either(_) => false,
+            Operator::Product(Product::Over | Product::Mod) => true,
+            Operator::Product(Product::Times)
+            | Operator::Not
+            | Operator::Sum(_)
+            | Operator::Relation(_)
+            | Operator::And
+            | Operator::Either(_) => false,
         }
     }
 }

@@ -4,73 +4,29 @@ ghost use Rattle.arithmetic.specs.Values.{signed, sum, difference, product, quot
 
 use crate::operators::{Either, Operator, Product, Relation, Sum};
 
-// The half of all patterns from which they stand for negative numbers.
-const HALF: u32 = 2147483648;
-
 // All bits: the pattern of -1.
 const ONES: u32 = 4294967295;
 
-fn sum(lhs: u32, rhs: u32) -> u32
-    ensures { result ≡ sum lhs rhs }
-{
-    std::num::wrapping_add_u32(lhs, rhs)
-}
-
-fn difference(lhs: u32, rhs: u32) -> u32
-    ensures { result ≡ difference lhs rhs }
-{
-    std::num::wrapping_sub_u32(lhs, rhs)
-}
-
-// The product modulo 2 to the 32, taken where it cannot overflow.
-fn product(lhs: u32, rhs: u32) -> u32
-    ensures { result ≡ product lhs rhs }
-{
-    ((lhs as u64) * (rhs as u64) % 4294967296) as u32
-}
-
-fn is_negative(v: u32) -> bool
-    ensures { result ≡ int_lt (signed v) (pos 0) }
-{
-    HALF <= v
-}
-
-// A value without its sign. The lowest number's is 2147483648, which a pattern has room for.
-fn size(v: u32) -> u32
-    ensures { result ≡ unsigned_abs (signed v) }
-{
-    if is_negative(v) {
-        return difference(0, v);
-    }
-    v
-}
-
-// Toward zero. Nothing is asked of a right side of zero: it is refused before.
+// Toward zero; the lowest number over -1 gives itself. Nothing is asked of a right side of zero: it is refused before.
 fn quotient(lhs: u32, rhs: u32) -> u32
     ensures { result ≡ quotient lhs rhs }
 {
-    if rhs == 0 {
-        return 0;
+    match rhs {
+        0 => 0,
+        ONES => lhs.wrapping_neg(),
+        _ => (lhs.cast_signed() / rhs.cast_signed()).cast_unsigned(),
     }
-    let q = size(lhs) / size(rhs);
-    if is_negative(lhs) == is_negative(rhs) {
-        return q;
-    }
-    difference(0, q)
 }
 
 // With the sign of the left side.
 fn remainder(lhs: u32, rhs: u32) -> u32
     ensures { result ≡ remainder lhs rhs }
 {
-    if rhs == 0 {
-        return lhs;
+    match rhs {
+        0 => lhs,
+        ONES => 0,
+        _ => (lhs.cast_signed() % rhs.cast_signed()).cast_unsigned(),
     }
-    let m = size(lhs) % size(rhs);
-    if is_negative(lhs) {
-        return difference(0, m);
-    }
-    m
 }
 
 fn truth(holds: bool) -> u32
@@ -79,61 +35,55 @@ fn truth(holds: bool) -> u32
     if holds { ONES } else { 0 }
 }
 
-// Patterns are in the order of their numbers once the negative half stands before the other.
-fn raised(v: u32) -> u32
-    ensures { result ≡ sum v 2147483648 }
-{
-    sum(v, HALF)
-}
-
 fn less(lhs: u32, rhs: u32) -> bool
     ensures { result ≡ less lhs rhs }
 {
-    raised(lhs) < raised(rhs)
+    lhs.cast_signed() < rhs.cast_signed()
 }
 
 fn at_most(lhs: u32, rhs: u32) -> bool
     ensures { result ≡ at_most lhs rhs }
 {
-    !less(rhs, lhs)
+    lhs.cast_signed() <= rhs.cast_signed()
 }
 
+#[tactic(auto, using(std::proofs::lemmas::Bool::Decides::nat_tests), unfolding(crate::specs::Values::shifted_left))]
 fn shifted_left(v: u32, by: u32) -> u32
     ensures { result ≡ shifted_left v by }
 {
     if by < 32 { v << by } else { 0 }
 }
 
+#[tactic(auto, using(std::proofs::lemmas::Bool::Decides::nat_tests), unfolding(crate::specs::Values::shifted_right_unsigned))]
 fn shifted_right_unsigned(v: u32, by: u32) -> u32
     ensures { result ≡ shifted_right_unsigned v by }
 {
     if by < 32 { v >> by } else { 0 }
 }
 
-// The sign bit comes in from the left: a negative one is shifted as its complement, whose bits are all turned.
+// The sign bit comes in from the left.
 fn shifted_right(v: u32, by: u32) -> u32
     ensures { result ≡ shifted_right v by }
 {
-    if is_negative(v) {
-        return ONES - shifted_right_unsigned(ONES - v, by);
+    if by < 32 {
+        return (v.cast_signed() >> by).cast_unsigned();
     }
-    shifted_right_unsigned(v, by)
+    truth(v.cast_signed() < 0)
 }
 
 // An operator before one operand.
+#[tactic(auto, unfolding(crate::specs::Values::difference))]
 pub fn unary(operator: Operator, v: u32) -> u32
     ensures { result ≡ unary_value operator v }
 {
     match operator {
-        Operator::Not => v ^ ONES,
-        Operator::Product(_) => v,
-        Operator::Sum(sign) => match sign {
-            Sum::Plus => v,
-            Sum::Minus => difference(0, v),
-        },
-        Operator::Relation(_) => v,
-        Operator::And => v,
-        Operator::Either(_) => v,
+        Operator::Not => !v,
+        Operator::Sum(Sum::Minus) => v.wrapping_neg(),
+        Operator::Sum(Sum::Plus)
+        | Operator::Product(_)
+        | Operator::Relation(_)
+        | Operator::And
+        | Operator::Either(_) => v,
     }
 }
 
@@ -154,25 +104,20 @@ fn related(relation: Relation, lhs: u32, rhs: u32) -> u32
 }
 
 // An operator between two operands.
+#[tactic(auto, unfolding(crate::specs::Values::sum, crate::specs::Values::difference, crate::specs::Values::product))]
 pub fn binary(operator: Operator, lhs: u32, rhs: u32) -> u32
     ensures { result ≡ binary_value operator lhs rhs }
 {
     match operator {
-        Operator::Not => 0,
-        Operator::Product(sign) => match sign {
-            Product::Times => product(lhs, rhs),
-            Product::Over => quotient(lhs, rhs),
-            Product::Mod => remainder(lhs, rhs),
-        },
-        Operator::Sum(sign) => match sign {
-            Sum::Plus => sum(lhs, rhs),
-            Sum::Minus => difference(lhs, rhs),
-        },
+        Operator::Product(Product::Times) => lhs.wrapping_mul(rhs),
+        Operator::Product(Product::Over) => quotient(lhs, rhs),
+        Operator::Product(Product::Mod) => remainder(lhs, rhs),
+        Operator::Sum(Sum::Plus) => lhs.wrapping_add(rhs),
+        Operator::Sum(Sum::Minus) => lhs.wrapping_sub(rhs),
         Operator::Relation(relation) => related(relation, lhs, rhs),
         Operator::And => lhs & rhs,
-        Operator::Either(sign) => match sign {
-            Either::Or => lhs | rhs,
-            Either::Eor => lhs ^ rhs,
-        },
+        Operator::Either(Either::Or) => lhs | rhs,
+        Operator::Either(Either::Eor) => lhs ^ rhs,
+        Operator::Not => 0,
     }
 }

@@ -70,18 +70,18 @@ module _ (leap : Bool) (day : ℕ) (h : day < year_length leap) (number : ℕ) (
       let t = (and-eq-true_iff (eqb (last_begun (months leap) 11 day) (step number)) (leb (first (step number)) number)).0 tests.0 in
       (eqb-true (last_begun (months leap) 11 day) (step number) t.0, leb-true (first (step number)) number t.1)
 
-  placed : (k : ℕ) → step number ≡ k → (record { months = k; day = number - first k } ≡ place_in_month leap day) × (first k ≤ number)
+  placed : (k : ℕ) → step number ≡ k → (record { whole = k; days = number - first k } ≡ place_in_month leap day) × (first k ≤ number)
   placed k e =
       let rest = eqb-true (day - total (months leap) (step number)) (number - first (step number)) tests.1 in
-      subst (λ k. (record { months = k; day = number - first k } ≡ place_in_month leap day) × (first k ≤ number)) e (
-        ap (λ d. record { months = step number; day = d }) (sym rest)
-            ∙ ap (λ k. record { months = k; day = day - total (months leap) k }) (sym month.0),
+      subst (λ k. (record { whole = k; days = number - first k } ≡ place_in_month leap day) × (first k ≤ number)) e (
+        ap (λ d. record { whole = step number; days = d }) (sym rest)
+            ∙ ap (λ k. record { whole = k; days = day - total (months leap) k }) (sym month.0),
         month.1,
       )
 
-  pub next_month : first (number / 32 + 1) ≤ number → record { months = number / 32 + 1; day = number - first (number / 32 + 1) } ≡ place_in_month leap day
+  pub next_month : first (number / 32 + 1) ≤ number → record { whole = number / 32 + 1; days = number - first (number / 32 + 1) } ≡ place_in_month leap day
   next_month begun = (placed (number / 32 + 1) (sym (hit (leb (first (number / 32 + 1)) number) _ _ (le-leb _ _ begun) refl))).0
 
   pub this_month : number < first (number / 32 + 1)
-      → (record { months = number / 32; day = number - first (number / 32) } ≡ place_in_month leap day) × (first (number / 32) ≤ number)
+      → (record { whole = number / 32; days = number - first (number / 32) } ≡ place_in_month leap day) × (first (number / 32) ≤ number)
   this_month later = placed (number / 32) (sym (skip (leb (first (number / 32 + 1)) number) _ _ (lt-leb _ _ later) refl))

@@ -23,10 +23,10 @@ first_day_range (suc n) =
 
 -- the year that a division by 365 names has not ended, and the one before it has begun
 module _ (day : ℕ) (early : day < 127259) where
-  placed : (n : ℕ) → years_by day ≡ n → record { years = n; day = day - first_day n } ≡ place_in_year day
-  placed n e = ap (λ k. record { years = k; day = day - first_day k }) (sym e)
+  placed : (n : ℕ) → years_by day ≡ n → record { whole = n; days = day - first_day n } ≡ place_in_year day
+  placed n e = ap (λ k. record { whole = k; days = day - first_day k }) (sym e)
 
-  pub this_year : first_day (day / 365) ≤ day → record { years = day / 365; day = day - first_day (day / 365) } ≡ place_in_year day
+  pub this_year : first_day (day / 365) ≤ day → record { whole = day / 365; days = day - first_day (day / 365) } ≡ place_in_year day
   this_year begun =
       let n = day / 365 in
       placed n (begun_is years 348 day n (omega arith) begun (λ _. omega (arith, (first_day_range (suc n)).0)))
@@ -36,7 +36,7 @@ module _ (day : ℕ) (early : day < 127259) where
       let n = day / 365 in
       (omega (arith, (first_day_range n).1), omega (arith, (first_day_range (n - 1)).1))
 
-  pub year_before : day < first_day (day / 365) → record { years = day / 365 - 1; day = day - first_day (day / 365 - 1) } ≡ place_in_year day
+  pub year_before : day < first_day (day / 365) → record { whole = day / 365 - 1; days = day - first_day (day / 365 - 1) } ≡ place_in_year day
   year_before later =
       let n = day / 365 - 1 in
       let e : suc n ≡ day / 365 = omega (arith, (begun_before later).0) in

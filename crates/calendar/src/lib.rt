@@ -5,6 +5,7 @@ ghost use Rattle.std.specs.Prelude.{◌≡◌, ◌+◌, ◌*◌};
 ghost use Rattle.calendar.specs.Moments.{moment_at};
 
 mod months;
+mod passed;
 mod years;
 
 use months::in_month;
@@ -32,21 +33,21 @@ pub struct Moment {
 pub fn moment_of(low: u32, high: u8) -> Moment
     ensures { result ≡ moment_at (low + 4294967296 * high) }
 {
-    let time = low as u64 + 4294967296 * (high as u64);
+    let time = u64::from(low) + 4294967296 * u64::from(high);
     let day = (time / DAY) as u32;
     let within = (time % DAY) as u32;
-    let place = in_year(day);
-    let year = 1900 + place.years;
-    let date = in_month(has_29_february(year), place.day);
+    let years = in_year(day);
+    let year = 1900 + years.whole;
+    let months = in_month(has_29_february(year), years.days);
     Moment {
         hundredth: within % 100,
         second: within / 100 % 60,
         minute: within / 6000 % 60,
         hour: within / 360000,
         weekday: day % 7,
-        yearday: place.day + 1,
-        day: date.day + 1,
-        month: date.months + 1,
+        yearday: years.days + 1,
+        day: months.days + 1,
+        month: months.whole + 1,
         year,
     }
 }

@@ -3,6 +3,8 @@ ghost use Rattle.std.specs.Prelude.{◌≡◌, ◌<◌};
 ghost use Rattle.calendar.specs.Counting.{leap, first_day};
 ghost use Rattle.calendar.specs.inner.Places.{place_in_year};
 
+use crate::passed::Passed;
+
 // The number of each year's first day, 1900's being 0: every step is 365 or 366 days.
 const FIRST_DAYS: [u32; 349] = [
     0, 365, 730, 1095, 1460, 1826, 2191, 2556, 2921, 3287, 3652, 4017, 4382, 4748, 5113, 5478,
@@ -34,81 +36,41 @@ const FIRST_DAYS: [u32; 349] = [
     123452, 123817, 124182, 124548, 124913, 125278, 125643, 126009, 126374, 126739, 127104,
 ];
 
-// A year counted from 1900, and a day of it counted from 0.
-#[derive(Clone, Copy)]
-pub(crate) struct InYear {
-    pub years: u32,
-    pub day: u32,
-}
-
 // Every fourth year has a 29 February, but for these three.
 pub(crate) fn has_29_february(year: u32) -> bool
     ensures { result ≡ leap year }
 {
-    if year == 1900 {
-        return false;
-    }
-    if year == 2100 {
-        return false;
-    }
-    if year == 2200 {
-        return false;
-    }
-    year % 4 == 0
+    year % 4 == 0 && !matches!(year, 1900 | 2100 | 2200)
 }
 
-// The number of a year's first day, the years counted from 1900. The table is bound before it is indexed: a const that is indexed in place
-// is written out anew for each use. And it is bound in each arm, whose index is seen to stay among 64 numbers: the compiler then writes
-// only those onto the stack, where it would write all 349 for an index that may be any.
+// The number of a year's first day, the years counted from 1900. The table is lent: a const that is indexed in place is written out anew
+// for each use.
 fn first_day(years: u32) -> u32
     requires { years < 349 }
     ensures { result ≡ first_day years }
 {
-    let within = (years % 64) as usize;
-    match years / 64 {
-        0 => {
-            let first_days = FIRST_DAYS;
-            first_days[within]
-        }
-        1 => {
-            let first_days = FIRST_DAYS;
-            first_days[64 + within]
-        }
-        2 => {
-            let first_days = FIRST_DAYS;
-            first_days[128 + within]
-        }
-        3 => {
-            let first_days = FIRST_DAYS;
-            first_days[192 + within]
-        }
-        4 => {
-            let first_days = FIRST_DAYS;
-            first_days[256 + within]
-        }
-        _ => {
-            let first_days = FIRST_DAYS;
-            first_days[320 + within]
-        }
-    }
+    let first_days = &FIRST_DAYS;
+    first_days[years as usize]
 }
 
-// The year that a day falls into. A year has 365 days at least, so a division by that names the year or the one behind it.
-pub(crate) fn in_year(day: u32) -> InYear
+// The years from 1900 up to the one that a day falls into, and the days of that one. A year has 365 days at least, so a division by that
+// names the year or the one behind it.
+#[tactic(auto, using(crate::proofs::InYears::this_year, crate::proofs::InYears::begun_before, crate::proofs::InYears::year_before))]
+pub(crate) fn in_year(day: u32) -> Passed
     requires { day < 127259 }
     ensures { result ≡ place_in_year day }
 {
     let years = day / 365;
     let first = first_day(years);
     if first <= day {
-        return InYear {
-            years,
-            day: day - first,
+        return Passed {
+            whole: years,
+            days: day - first,
         };
     }
     let before = years - 1;
-    InYear {
-        years: before,
-        day: day - first_day(before),
+    Passed {
+        whole: before,
+        days: day - first_day(before),
     }
 }

@@ -7,30 +7,13 @@ use native.Mathlib.Omega.{arith}
 use lib.Dec.{eqb}
 use lib.ListN.{length, take, get_or, length-take, get_or-eq_default}
 use lib.Seq.{get_or-take}
-use Rattle.paper.proofs.Choice.{either, same, clash}
-use Rattle.dates.specs.Fields.{pair, date_field, field_named}
-use Rattle.dates.specs.Formats.{behind_percent, piece_at, Layout, laid_out, layout_from, layout_of, good, bad, fields_of}
+use Rattle.std.specs.Prelude.{Option, Some, None}
+use Rattle.paper.proofs.Choice.{same, clash}
+use Rattle.dates.specs.Fields.{pair, field_named}
+use Rattle.dates.specs.Formats.{named, behind_percent, piece_at, Layout, laid_out, layout_from, layout_of, good, bad, fields_of}
 use Rattle.dates.specs.declared.fields.Field.{Field}
 use Rattle.dates.specs.declared.pieces.Piece.{Piece}
 use Rattle.dates.specs.declared.pieces.Piece.TheVariants.{End, Copied, Percent, Shown, Bad}
-
--- a name is that of a field, or of none
-abbrev is_field : Piece → Bool
-is_field End = false
-is_field (Copied c) = false
-is_field Percent = false
-is_field (Shown field) = true
-is_field Bad = true
-
-module _ (n : ℕ) where
-  or_else : (v : ℕ) (field : Field) (rest : Piece) → is_field rest ≡ true → is_field (cond (eqb n v) (Shown field) rest) ≡ true
-  or_else v field rest r = either (λ p. is_field p ≡ true) (eqb n v) (λ _. refl) (λ _. r)
-
-  names_field : is_field (field_named n) ≡ true
-  unfolding field_named date_field
-  names_field =
-      or_else _ _ _ (or_else _ _ _ (or_else _ _ _ (or_else _ _ _ (or_else _ _ _ (or_else _ _ _
-      (or_else _ _ _ (or_else _ _ _ (or_else _ _ _ (or_else _ _ _ (or_else _ _ _ refl))))))))))
 
 -- a piece by its three bytes: one that is copied goes by the first alone, and a percent sign by the first two
 abbrev piece : ℕ → ℕ → ℕ → Piece
@@ -38,24 +21,26 @@ piece c a b = cond (eqb c 0) End (cond (eqb c 37) (behind_percent a b) (Copied c
 
 module _ (c a b : ℕ) where
   copied : (a' b' d : ℕ) → piece c a b ≡ Copied d → piece c a' b' ≡ Copied d
-  copied a' b' d = go (eqb c 0) (eqb c 37) (eqb a 37)
+  copied a' b' d = go (eqb c 0) (eqb c 37) (eqb a 37) (field_named (pair a b))
     where
-      go : (z p q : Bool) → cond z End (cond p (cond q Percent (field_named (pair a b))) (Copied c)) ≡ Copied d
+      go : (z p q : Bool) (name : Option Field) → cond z End (cond p (cond q Percent (named name)) (Copied c)) ≡ Copied d
           → cond z End (cond p (behind_percent a' b') (Copied c)) ≡ Copied d
-      go true p q e = clash (cc)
-      go false true true e = clash (cc)
-      go false true false e = clash (cc (names_field (pair a b)))
-      go false false q e = e
+      go true p q name e = clash (cc)
+      go false true true name e = clash (cc)
+      go false true false (Some field) e = clash (cc)
+      go false true false None e = clash (cc)
+      go false false q name e = e
 
   percent : (b' : ℕ) → piece c a b ≡ Percent → piece c a b' ≡ Percent
-  percent b' = go (eqb c 0) (eqb c 37) (eqb a 37)
+  percent b' = go (eqb c 0) (eqb c 37) (eqb a 37) (field_named (pair a b))
     where
-      go : (z p q : Bool) → cond z End (cond p (cond q Percent (field_named (pair a b))) (Copied c)) ≡ Percent
-          → cond z End (cond p (cond q Percent (field_named (pair a b'))) (Copied c)) ≡ Percent
-      go true p q e = clash (cc)
-      go false true true e = refl
-      go false true false e = clash (cc (names_field (pair a b)))
-      go false false q e = clash (cc)
+      go : (z p q : Bool) (name : Option Field) → cond z End (cond p (cond q Percent (named name)) (Copied c)) ≡ Percent
+          → cond z End (cond p (cond q Percent (named (field_named (pair a b')))) (Copied c)) ≡ Percent
+      go true p q name e = clash (cc)
+      go false true true name e = refl
+      go false true false (Some field) e = clash (cc)
+      go false true false None e = clash (cc)
+      go false false q name e = clash (cc)
 
 -- pieces of a format that lie before a place, where it is cut off
 module _ (format : List ℕ) (n p : ℕ) where

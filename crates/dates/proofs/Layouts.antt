@@ -9,11 +9,12 @@ use native.Mathlib.Omega.{arith}
 use lib.Dec.{eqb, ltb}
 use lib.ListN.{length, get_or, length-append, get_or-eq_default}
 use borrow.Author.Tests.{ltb-true, eqb-true, eqb-false}
+use Rattle.std.specs.Prelude.{Option, Some}
 use Rattle.paper.proofs.Choice.{either, clash}
 use Rattle.forms.specs.Digits.{digits}
 use Rattle.calendar.specs.declared.Moment.{Moment}
 use Rattle.dates.specs.Fields.{pair, date_field, field_named, shown}
-use Rattle.dates.specs.Formats.{behind_percent, piece_at, Layout, ended, copies, shows, bad_field_at, laid_out, layout_from, string}
+use Rattle.dates.specs.Formats.{named, behind_percent, piece_at, Layout, ended, copies, shows, bad_field_at, laid_out, layout_from, string}
 use Rattle.dates.specs.declared.fields.Field.{Field}
 use Rattle.dates.specs.declared.fields.Field.TheVariants.{Hundredths, Seconds, Minutes, Hours, Day, Month, MonthName, Century, Year, DayOfYear, WeekdayName}
 use Rattle.dates.specs.declared.pieces.Piece.{Piece}
@@ -35,19 +36,19 @@ inside format at h = go (dec_lt at (length format))
     go (yes p) = p
     go (no p) = absurd (h (get_or-eq_default format 0 (omega arith)))
 
--- no name's second character is a zero
+-- no field's second character is a zero
 module _ (n k : ℕ) (one : 1 ≤ k) (three : (n % 256 ≡ 0 → ⊥) → 3 ≤ k) where
-  named : (v : ℕ) (field : Field) (rest : Piece) → ltb 0 (v % 256) ≡ true → span rest ≤ k → span (cond (eqb n v) (Shown field) rest) ≤ k
-  named v field rest low r =
-      either (λ p. span p ≤ k) (eqb n v)
+  or_else : (v : ℕ) (field : Field) (rest : Option Field) → ltb 0 (v % 256) ≡ true → span (named rest) ≤ k → span (named (cond (eqb n v) (Some field) rest)) ≤ k
+  or_else v field rest low r =
+      either (λ name. span (named name) ≤ k) (eqb n v)
       (λ e. three (λ z. omega (arith, ltb-true 0 (v % 256) low, ap (λ x. x % 256) (eqb-true n v e))))
       (λ _. r)
 
-  name_span : span (field_named n) ≤ k
+  name_span : span (named (field_named n)) ≤ k
   unfolding field_named date_field
   name_span =
-      named _ _ _ refl (named _ _ _ refl (named _ _ _ refl (named _ _ _ refl (named _ _ _ refl (named _ _ _ refl
-      (named _ _ _ refl (named _ _ _ refl (named _ _ _ refl (named _ _ _ refl (named _ _ _ refl one))))))))))
+      or_else _ _ _ refl (or_else _ _ _ refl (or_else _ _ _ refl (or_else _ _ _ refl (or_else _ _ _ refl (or_else _ _ _ refl
+      (or_else _ _ _ refl (or_else _ _ _ refl (or_else _ _ _ refl (or_else _ _ _ refl (or_else _ _ _ refl one))))))))))
 
 module _ (format : List ℕ) (at : ℕ) where
   behind_span : at < length format → span (behind_percent (get_or format (at + 1) 0) (get_or format (at + 2) 0)) ≤ length format - at

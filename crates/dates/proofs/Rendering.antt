@@ -1,6 +1,6 @@
 -- The string of a format piece by piece: what is left to be written at each, and how the next one changes that.
-use mathlib.Core.Bool.{Bool, true, false, cond, not, ◌&&◌, and-eq-true_iff}
-use mathlib.Core.List.{List, ◌++◌}
+use mathlib.Core.Bool.{Bool, true, false, not, ◌&&◌, and-eq-true_iff}
+use mathlib.Core.List.{List, [], ◌∷◌, ◌++◌}
 use mathlib.Core.Path.{◌≡◌, refl, ap, ap₂, sym, subst, subst₂, ◌∙◌}
 use Prim.Native.Nat.{ℕ, zero, suc, ◌+◌, ◌-◌, ◌≤◌, ◌<◌}
 use native.Mathlib.Nat.{add-zero}
@@ -10,26 +10,24 @@ use lib.Dec.{leb, eqb}
 use borrow.Author.Tests.{le-leb, not-true}
 use lib.ListN.{length, get_or, take, drop, set, length-set, length-append}
 use lib.Seq.{sets, sets-eq, length-sets, length-take-le, drop-cons}
-use Rattle.paper.specs.Layings.{laying, laid_in, converted_by}
-use Rattle.paper.specs.Refusals.{bad_field}
-use Rattle.paper.specs.declared.TextPlace.{TextPlace}
-use Rattle.paper.specs.declared.layings.Converted.{Converted}
-use Rattle.paper.specs.declared.layings.Converted.TheVariants.{Refused}
+use Rattle.std.specs.Prelude.{Option, Some, None, Result, Ok, Err}
+use Rattle.paper.specs.Layings.{laying, laid_in, Converted, converted_by}
+use Rattle.paper.specs.declared.refusals.Refusal.TheVariants as Refusals
 use Rattle.paper.specs.Bytes.{run_of}
 use Rattle.paper.proofs.Choice.{clash, hit, skip, either}
 use Rattle.paper.proofs.Runs.{run_none, run_more, run_short}
 use Rattle.paper.proofs.Stores.{sets_append}
 use Rattle.runs.specs.Output.{laid_at}
 use Rattle.calendar.specs.declared.Moment.{Moment}
-use Rattle.dates.specs.Fields.{pair, date_field, field_named, shown}
-use Rattle.dates.specs.Formats.{behind_percent, piece_at, Layout, ended, copies, shows, bad_field_at, laid_out, layout_from, layout_of, string, good, bad, fields_of}
+use Rattle.dates.specs.Fields.{pair, field_named, shown}
+use Rattle.dates.specs.Formats.{named, behind_percent, piece_at, Layout, ended, copies, shows, bad_field_at, laid_out, layout_from, layout_of, string, good, bad, fields_of}
 use Rattle.dates.specs.Conversions.{answer_by, buffer_by}
 use Rattle.dates.specs.inner.Steps.{rendered, plain_byte}
 use Rattle.dates.specs.declared.fields.Field.{Field}
 use Rattle.dates.specs.declared.pieces.Piece.{Piece}
 use Rattle.dates.specs.declared.pieces.Piece.TheVariants.{End, Copied, Percent, Shown, Bad}
 use Rattle.dates.proofs.Layouts.{copied_inside, percent_inside, shown_inside, shown_length, width_most, string_short}
-use Rattle.dates.specs.declared.render.Rendered.TheVariants.{Characters, BadField}
+use Rattle.dates.specs.declared.render.BadField.{BadField}
 
 -- a place of a format and a place of the string, and what is still to come from there on. The buffer counts where the string has room
 pub record Rendering (m : Moment) (format out₀ out : List ℕ) (at to : ℕ) : Type 0 where
@@ -83,12 +81,12 @@ module _ (m : Moment) (format out₀ out : List ℕ) (at to : ℕ) where
 
   -- the format's end, and a bad field
   pub ends : Rendering m format out₀ out at to → piece_at format at ≡ End
-      → (Characters to ≡ rendered m 0 (layout_of format))
+      → (Ok to ≡ rendered m 0 (layout_of format))
       × (length (string m (layout_of format)) ≤ length out₀ → out ≡ sets out₀ 0 (string m (layout_of format)))
   ends r e = (sym (answers r End e), λ room. sym (leaves r End e room))
 
   pub fails : Rendering m format out₀ out at to → piece_at format at ≡ Bad
-      → (BadField (record { 0 = at }) ≡ rendered m 0 (layout_of format))
+      → (Err (record { at = record { 0 = at } }) ≡ rendered m 0 (layout_of format))
       × (length (string m (layout_of format)) ≤ length out₀ → out ≡ sets out₀ 0 (string m (layout_of format)))
   fails r e = (sym (answers r Bad e), λ room. sym (leaves r Bad e room))
 
@@ -112,15 +110,15 @@ module _ (m : Moment) (format out₀ out : List ℕ) (at to : ℕ) where
           same = length-set out to c ∙ r.same;
         }
 
-  pub copied : Rendering m format out₀ out at to → (c : ℕ) → piece_at format at ≡ Copied c → Rendering m format out₀ (set out to c) (at + 1) (to + 1)
+  copied : Rendering m format out₀ out at to → (c : ℕ) → piece_at format at ≡ Copied c → Rendering m format out₀ (set out to c) (at + 1) (to + 1)
   copied r c e = one r (Copied c) e c 1 (λ rest. refl) (omega (arith, copied_inside format at e)) (omega arith)
 
-  pub percent : Rendering m format out₀ out at to → piece_at format at ≡ Percent → Rendering m format out₀ (set out to 37) (at + 2) (to + 1)
+  percent : Rendering m format out₀ out at to → piece_at format at ≡ Percent → Rendering m format out₀ (set out to 37) (at + 2) (to + 1)
   percent r e = one r Percent e 37 2 (λ rest. refl) (omega (arith, percent_inside format at e)) (omega arith)
 
-  pub field : Rendering m format out₀ out at to → (f : Field) → piece_at format at ≡ Shown f
-      → (out' : List ℕ) (to' : ℕ) → out' ≡ sets out to (shown f m) → to' ≡ to + length (shown f m) → Rendering m format out₀ out' (at + 3) to'
-  field r f e out' to' o t =
+  field : Rendering m format out₀ out at to → (f : Field) → piece_at format at ≡ Shown f
+      → Rendering m format out₀ (sets out to (shown f m)) (at + 3) (to + length (shown f m))
+  field r f e =
       let s = step r (Shown f) e in
       let inside = shown_inside format at e in
       let narrow : length (shown f m) ≤ 3 = omega (arith, shown_length f m, width_most f) in
@@ -130,15 +128,14 @@ module _ (m : Moment) (format out₀ out : List ℕ) (at to : ℕ) where
         ahead = omega (arith, r.ahead, s.1);
         inside = omega arith;
         short = omega (arith, r.short);
-        answer = answers r (Shown f) e ∙ ap (λ n. rendered m n (layout_from s.0 format (at + 3))) (sym t);
+        answer = answers r (Shown f) e;
         long = omega (arith, lengths r (Shown f) e, length-append (shown f m) behind);
-        buffer =
-            λ room. leaves r (Shown f) e room ∙ sets_append (shown f m) behind out to ∙ ap₂ (λ l n. sets l n behind) (sym o) (sym t);
-        same = ap length o ∙ length-sets out to (shown f m) ∙ r.same;
+        buffer = λ room. leaves r (Shown f) e room ∙ sets_append (shown f m) behind out to;
+        same = length-sets out to (shown f m) ∙ r.same;
       }
 
   -- another buffer of that length, which is the same where the string has room
-  pub replaced : Rendering m format out₀ out at to → (out' : List ℕ) → length out' ≡ length out
+  replaced : Rendering m format out₀ out at to → (out' : List ℕ) → length out' ≡ length out
       → (length (string m (layout_of format)) ≤ length out₀ → out' ≡ out) → Rendering m format out₀ out' at to
   replaced r out' l e =
       record {
@@ -152,6 +149,26 @@ module _ (m : Moment) (format out₀ out : List ℕ) (at to : ℕ) where
         same = l ∙ r.same;
       }
 
+-- bytes that are laid where all of them fit
+laid : (m : Moment) (format out₀ out bytes : List ℕ) (at to to' : ℕ) → to' ≡ to + length bytes
+    → Rendering m format out₀ (sets out to bytes) at to' → (out' : List ℕ) → out' ≡ laid_at out to bytes → Rendering m format out₀ out' at to'
+laid m format out₀ out bytes at to to' behind all out' e =
+    replaced m format out₀ (sets out to bytes) at to' all out'
+    (ap length e ∙ either (λ l. length l ≡ length (sets out to bytes)) (leb (to + length bytes) (length out)) (λ _. refl) (λ _. sym (length-sets out to bytes)))
+    (λ room. e ∙ sym (hit (leb (to + length bytes) (length out)) _ _ (le-leb (to + length bytes) (length out) (omega (arith, behind, all.long, all.same, length-sets out to bytes))) refl))
+
+module _ (m : Moment) (format out₀ out : List ℕ) (at to : ℕ) (r : Rendering m format out₀ out at to) (out' : List ℕ) where
+  pub copied_laid : (c : ℕ) → piece_at format at ≡ Copied c → out' ≡ laid_at out to (c ∷ []) → Rendering m format out₀ out' (at + 1) (to + 1)
+  copied_laid c e = laid m format out₀ out (c ∷ []) (at + 1) to (to + 1) (omega arith) (copied m format out₀ out at to r c e) out'
+
+  pub percent_laid : piece_at format at ≡ Percent → out' ≡ laid_at out to (37 ∷ []) → Rendering m format out₀ out' (at + 2) (to + 1)
+  percent_laid e = laid m format out₀ out (37 ∷ []) (at + 2) to (to + 1) (omega arith) (percent m format out₀ out at to r e) out'
+
+  pub field_laid : (f : Field) → piece_at format at ≡ Shown f → (to' : ℕ) → out' ≡ laid_at out to (shown f m) → to' ≡ to + length (shown f m)
+      → Rendering m format out₀ out' (at + 3) to'
+  field_laid f e to' o t =
+      laid m format out₀ out (shown f m) (at + 3) to to' t (subst (Rendering m format out₀ (sets out to (shown f m)) (at + 3)) (sym t) (field m format out₀ out at to r f e)) out' o
+
 -- a byte that stands for itself is copied
 plain_copied : (format : List ℕ) (at : ℕ) → plain_byte (get_or format at 0) ≡ true → piece_at format at ≡ Copied (get_or format at 0)
 unfolding piece_at
@@ -159,19 +176,13 @@ plain_copied format at e =
     let t = (and-eq-true_iff (not (eqb (get_or format at 0) 0)) (not (eqb (get_or format at 0) 37))).0 e in
     sym (skip (eqb (get_or format at 0) 0) _ _ (not-true _ t.0) (skip (eqb (get_or format at 0) 37) _ _ (not-true _ t.1) refl))
 
--- no field is a byte that is copied
-module _ (n c : ℕ) where
-  named : (v : ℕ) (field : Field) (rest : Piece) → (rest ≡ Copied c → ⊥) → cond (eqb n v) (Shown field) rest ≡ Copied c → ⊥
-  named v field rest r = either (λ p. p ≡ Copied c → ⊥) (eqb n v) (λ _ e. clash (cc)) (λ _. r)
-
-  name_not_copied : field_named n ≡ Copied c → ⊥
-  unfolding field_named date_field
-  name_not_copied =
-      named _ _ _ (named _ _ _ (named _ _ _ (named _ _ _ (named _ _ _ (named _ _ _
-      (named _ _ _ (named _ _ _ (named _ _ _ (named _ _ _ (named _ _ _ (λ e. clash (cc))))))))))))
+-- no name is a byte that is copied
+name_not_copied : (name : Option Field) (c : ℕ) → named name ≡ Copied c → ⊥
+name_not_copied (Some field) c e = clash (cc)
+name_not_copied None c e = clash (cc)
 
 not_copied : (a b c : ℕ) → behind_percent a b ≡ Copied c → ⊥
-not_copied a b c = either (λ p. p ≡ Copied c → ⊥) (eqb a 37) (λ _ e. clash (cc)) (λ _. name_not_copied (pair a b) c)
+not_copied a b c = either (λ p. p ≡ Copied c → ⊥) (eqb a 37) (λ _ e. clash (cc)) (λ _. name_not_copied (field_named (pair a b)) c)
 
 copied_plain : (format : List ℕ) (at c : ℕ) → piece_at format at ≡ Copied c → plain_byte (get_or format at 0) ≡ true
 unfolding piece_at
@@ -212,18 +223,12 @@ run m format out₀ (suc n) out at to r h =
     let there = subst₂ (Rendering m format out₀ (sets (set out to c) (to + 1) (take n (drop (at + 1) format)))) a t all in
     subst (λ o. Rendering m format out₀ o (at + suc n) (to + suc n)) o there
 
--- a run that is laid where all of it fits
 laid_run : (m : Moment) (format out₀ out : List ℕ) (at to : ℕ) → Rendering m format out₀ out at to
     → (n : ℕ) → n ≤ run_of plain_byte (drop at format) → (out' : List ℕ) → out' ≡ laid_at out to (take n (drop at format))
     → Rendering m format out₀ out' (at + n) (to + n)
 laid_run m format out₀ out at to r n h out' e =
-    let bytes = take n (drop at format) in
-    let all = run m format out₀ n out at to r h in
-    let count : length bytes ≡ n =
-    length-take-le n (drop at format) (omega (arith, run_short plain_byte (drop at format))) in
-    replaced m format out₀ (sets out to bytes) (at + n) (to + n) all out'
-    (ap length e ∙ either (λ l. length l ≡ length (sets out to bytes)) (leb (to + length bytes) (length out)) (λ _. refl) (λ _. sym (length-sets out to bytes)))
-    (λ room. e ∙ sym (hit (leb (to + length bytes) (length out)) _ _ (le-leb (to + length bytes) (length out) (omega (arith, count, all.long, all.same, length-sets out to bytes))) refl))
+    let count : length (take n (drop at format)) ≡ n = length-take-le n (drop at format) (omega (arith, run_short plain_byte (drop at format))) in
+    laid m format out₀ out (take n (drop at format)) (at + n) to (to + n) (omega (arith, count)) (run m format out₀ n out at to r h) out' e
 
 pub runs_on : (m : Moment) (format out₀ out : List ℕ) (at to : ℕ) → Rendering m format out₀ out at to
     → (end : ℕ) → end ≡ at + run_of plain_byte (drop at format) → (out' : List ℕ) → out' ≡ laid_at out to (take (end - at) (drop at format))
@@ -232,11 +237,11 @@ runs_on m format out₀ out at to r end e out' o =
     let behind : at + (end - at) ≡ end = omega arith in
     subst (λ i. Rendering m format out₀ out' i (to + (end - at))) behind (laid_run m format out₀ out at to r (end - at) (omega arith) out' o)
 
-characters_of : (n k : ℕ) → Characters n ≡ Characters k → n ≡ k
+characters_of : (n k : ℕ) → ◌≡◌ {A = Result ℕ BadField} (Ok n) (Ok k) → n ≡ k
 characters_of n k e = cc
 
 -- what is told of a layout: how long its string is, or its first bad field
-pub measured : (m : Moment) (layout : Layout) (n k : ℕ) → rendered m n layout ≡ Characters k → (fields_of layout ≡ good) × (k ≡ n + length (string m layout))
+pub measured : (m : Moment) (layout : Layout) (n k : ℕ) → rendered m n layout ≡ Ok k → (fields_of layout ≡ good) × (k ≡ n + length (string m layout))
 measured m ended n k e = (refl, omega (arith, characters_of n k e))
 measured m (copies c rest) n k e = let t = measured m rest (n + 1) k e in (t.0, omega (arith, t.1))
 measured m (shows field rest) n k e =
@@ -244,11 +249,14 @@ measured m (shows field rest) n k e =
     (t.0, omega (arith, t.1, length-append (shown field m) (string m rest)))
 measured m (bad_field_at at) n k e = clash (cc)
 
-pub failed : (m : Moment) (layout : Layout) (n : ℕ) (at : TextPlace) → rendered m n layout ≡ BadField at → fields_of layout ≡ bad at.0
-failed m ended n at e = clash (cc)
-failed m (copies c rest) n at e = failed m rest (n + 1) at e
-failed m (shows field rest) n at e = failed m rest (n + length (shown field m)) at e
-failed m (bad_field_at at') n at e = ap bad (cc)
+found_of : (f g : BadField) → ◌≡◌ {A = Result ℕ BadField} (Err f) (Err g) → f ≡ g
+found_of f g e = cc
+
+pub failed : (m : Moment) (layout : Layout) (n : ℕ) (found : BadField) → rendered m n layout ≡ Err found → fields_of layout ≡ bad found.at.0
+failed m ended n found e = clash (cc)
+failed m (copies c rest) n found e = failed m rest (n + 1) found e
+failed m (shows field rest) n found e = failed m rest (n + length (shown field m)) found e
+failed m (bad_field_at at) n found e = ap (λ f. bad f.at.0) (found_of _ found e)
 
 -- a string at the start of a buffer that has room for it
 pub at_start : (string buf : List ℕ) (n : ℕ) → length string ≡ n → n ≤ length buf → sets buf 0 string ≡ string ++ drop n buf
@@ -265,13 +273,13 @@ module _ (m : Moment) (format buf : List ℕ) where
   abbrev layout : Layout
   layout = layout_of format
 
-  pub bad_answer : (at : TextPlace) → rendered m 0 layout ≡ BadField at
-      → (Refused bad_field at 0 (length buf) ≡ converted_by (answer_by (fields_of layout) (string m layout) (length buf))) × (buf ≡ buffer_by (fields_of layout) (string m layout) buf)
-  bad_answer at e =
-      let f = sym (failed m layout 0 at e) in
+  pub bad_answer : (found : BadField) → rendered m 0 layout ≡ Err found
+      → (Err (record { why = Refusals.BadField; at = found.at; need = 0; free = length buf }) ≡ converted_by (answer_by (fields_of layout) (string m layout) (length buf))) × (buf ≡ buffer_by (fields_of layout) (string m layout) buf)
+  bad_answer found e =
+      let f = sym (failed m layout 0 found e) in
       (ap (λ f. converted_by (answer_by f (string m layout) (length buf))) f, ap (λ f. buffer_by f (string m layout) buf) f)
 
-  pub good_answer : (k : ℕ) → rendered m 0 layout ≡ Characters k → (r : Converted) (after : List ℕ)
+  pub good_answer : (k : ℕ) → rendered m 0 layout ≡ Ok k → (r : Converted) (after : List ℕ)
       → (r ≡ converted_by (laying (string m layout) true (length buf))) × (after ≡ laid_in (string m layout) true buf)
       → (r ≡ converted_by (answer_by (fields_of layout) (string m layout) (length buf))) × (after ≡ buffer_by (fields_of layout) (string m layout) buf)
   good_answer k e r after (a, b) =
@@ -279,7 +287,7 @@ module _ (m : Moment) (format buf : List ℕ) where
       (a ∙ ap (λ f. converted_by (answer_by f (string m layout) (length buf))) f, b ∙ ap (λ f. buffer_by f (string m layout) buf) f)
 
   -- the string is as long as was told, and no longer than the format
-  pub told_length : (k : ℕ) → rendered m 0 layout ≡ Characters k → (length (string m layout) ≡ k) × (k ≤ length format)
+  pub told_length : (k : ℕ) → rendered m 0 layout ≡ Ok k → (length (string m layout) ≡ k) × (k ≤ length format)
   told_length k e =
       let t = (measured m layout 0 k e).1 in
       (omega (arith, t), omega (arith, t, string_short m (suc (length format)) format 0 (omega arith)))

@@ -1,5 +1,5 @@
 -- The fields: their names, and what each shows of a moment.
-use Rattle.std.specs.Prelude.{false, cond, List, [], ◌∷◌, ℕ, ◌+◌, ◌-◌, ◌*◌, ◌/◌, ◌%◌, eqb, get_or}
+use Rattle.std.specs.Prelude.{false, cond, Option, Some, None, List, [], ◌∷◌, ℕ, ◌+◌, ◌-◌, ◌*◌, ◌/◌, ◌%◌, eqb, get_or}
 use Prim.Native.Char.{code}
 use Prim.Native.String.{String, char_at}
 use Rattle.paper.specs.Texts.{bytes}
@@ -7,8 +7,6 @@ use Rattle.forms.specs.Digits.{digits}
 use Rattle.calendar.specs.declared.Moment.{Moment}
 use Rattle.dates.specs.declared.fields.Field.{Field}
 use Rattle.dates.specs.declared.fields.Field.TheVariants.{Hundredths, Seconds, Minutes, Hours, Day, Month, MonthName, Century, Year, DayOfYear, WeekdayName}
-use Rattle.dates.specs.declared.pieces.Piece.{Piece}
-use Rattle.dates.specs.declared.pieces.Piece.TheVariants.{Shown, Bad}
 
 -- two characters as one number
 abbrev pub pair : ℕ → ℕ → ℕ
@@ -19,24 +17,24 @@ abbrev pub name : String → ℕ
 name s = pair (code (char_at s 0)) (code (char_at s 1))
 
 -- the field that two characters name, in capitals; no others name one
-unfoldable pub date_field : ℕ → Piece
+unfoldable pub date_field : ℕ → Option Field
 date_field n =
-    cond (eqb n (name "DY")) (Shown Day)
-    (cond (eqb n (name "MN")) (Shown Month)
-    (cond (eqb n (name "M3")) (Shown MonthName)
-    (cond (eqb n (name "CE")) (Shown Century)
-    (cond (eqb n (name "YR")) (Shown Year)
-    (cond (eqb n (name "DN")) (Shown DayOfYear)
-    (cond (eqb n (name "W3")) (Shown WeekdayName)
-    Bad))))))
+    cond (eqb n (name "DY")) (Some Day)
+    (cond (eqb n (name "MN")) (Some Month)
+    (cond (eqb n (name "M3")) (Some MonthName)
+    (cond (eqb n (name "CE")) (Some Century)
+    (cond (eqb n (name "YR")) (Some Year)
+    (cond (eqb n (name "DN")) (Some DayOfYear)
+    (cond (eqb n (name "W3")) (Some WeekdayName)
+    None))))))
 
-unfoldable pub field_named : ℕ → Piece
+unfoldable pub field_named : ℕ → Option Field
 field_named n =
     let date = date_field n in
-    cond (eqb n (name "CS")) (Shown Hundredths)
-    (cond (eqb n (name "SE")) (Shown Seconds)
-    (cond (eqb n (name "MI")) (Shown Minutes)
-    (cond (eqb n (name "24")) (Shown Hours)
+    cond (eqb n (name "CS")) (Some Hundredths)
+    (cond (eqb n (name "SE")) (Some Seconds)
+    (cond (eqb n (name "MI")) (Some Minutes)
+    (cond (eqb n (name "24")) (Some Hours)
     date)))
 
 -- the last two digits of a number

@@ -1,14 +1,19 @@
 -- A format: its pieces from the left, and the string that they make of a moment.
-use Rattle.std.specs.Prelude.{cond, List, [], ◌∷◌, ◌++◌, ℕ, zero, suc, ◌+◌, eqb, length, get_or}
+use Rattle.std.specs.Prelude.{cond, Option, Some, None, List, [], ◌∷◌, ◌++◌, ℕ, zero, suc, ◌+◌, eqb, length, get_or}
 use Rattle.calendar.specs.declared.Moment.{Moment}
 use Rattle.dates.specs.Fields.{pair, field_named, shown}
 use Rattle.dates.specs.declared.fields.Field.{Field}
 use Rattle.dates.specs.declared.pieces.Piece.{Piece}
 use Rattle.dates.specs.declared.pieces.Piece.TheVariants.{End, Copied, Percent, Shown, Bad}
 
--- the two bytes behind a percent sign: another percent sign, or a field's name
+-- a percent sign with a name of two characters behind it, which is a field's or none's
+abbrev pub named : Option Field → Piece
+named (Some field) = Shown field
+named None = Bad
+
+-- the two bytes behind a percent sign: another percent sign, or a name
 abbrev pub behind_percent : ℕ → ℕ → Piece
-behind_percent a b = cond (eqb a 37) Percent (field_named (pair a b))
+behind_percent a b = cond (eqb a 37) Percent (named (field_named (pair a b)))
 
 -- the piece at a place. Behind the slice's end stands a zero here, which ends a format as the slice's end does, and is in no name
 unfoldable pub piece_at : List ℕ → ℕ → Piece

@@ -1,5 +1,5 @@
 // The fields of a format, and what each shows of a moment.
-ghost use Rattle.std.specs.Prelude.{◌≡◌, [], ◌∷◌, ◌≤◌, ◌-◌};
+ghost use Rattle.std.specs.Prelude.{◌≡◌, ◌≤◌, ◌-◌};
 ghost use Rattle.dates.specs.Fields.{two, three, lettered, month_names, weekday_names, shown};
 ghost use Rattle.dates.specs.inner.Steps.{glyphs, number};
 
@@ -21,69 +21,54 @@ pub enum Field {
     WeekdayName,
 }
 
-// Two characters, or three.
+// What a field shows: two characters, or three.
 #[derive(Clone, Copy)]
-pub(crate) struct Glyphs {
-    pub first: u8,
-    pub second: u8,
-    pub third: u8,
-    pub three: bool,
+pub(crate) enum Glyphs {
+    Two([u8; 2]),
+    Three([u8; 3]),
 }
 
 // Of the last two digits as one number, so that only that division is of a large number.
+#[tactic(auto, unfolding(forms::specs::Digits::digits))]
 fn two_digits(n: u32) -> Glyphs
     ensures { glyphs result ≡ two n }
 {
     let last = n % 100;
-    Glyphs {
-        first: Base::Ten.last_glyph(last / 10),
-        second: Base::Ten.last_glyph(last),
-        third: 0,
-        three: false,
-    }
+    Glyphs::Two([Base::Ten.last_glyph(last / 10), Base::Ten.last_glyph(last)])
 }
 
+// Not one function with the other: that takes two digits off a large number in one step, which an odd count of them doesn't allow.
+#[tactic(auto, unfolding(forms::specs::Digits::digits))]
 fn three_digits(n: u32) -> Glyphs
     ensures { glyphs result ≡ three n }
 {
-    Glyphs {
-        first: Base::Ten.last_glyph(n / 100),
-        second: Base::Ten.last_glyph(n / 10),
-        third: Base::Ten.last_glyph(n),
-        three: true,
-    }
+    Glyphs::Three([
+        Base::Ten.last_glyph(n / 100),
+        Base::Ten.last_glyph(n / 10),
+        Base::Ten.last_glyph(n),
+    ])
 }
 
-fn name(first: u8, second: u8, third: u8) -> Glyphs
-    ensures { glyphs result ≡ first ∷ second ∷ third ∷ [] }
-{
-    Glyphs {
-        first,
-        second,
-        third,
-        three: true,
-    }
-}
-
-// The names are arms: the compiler makes a table of them that is only read, where a string would be written onto the stack for each use.
+// The names are arms, each of which is proved by itself; the compiler makes a table of them that is only read, where a string would be written
+// onto the stack for each use. Of a table in the code an entry would be a fact about all twelve.
 fn month_name(month: u32) -> Glyphs
     requires { 1 ≤ month }
     ensures { glyphs result ≡ lettered month_names (month - 1) }
 {
     match month {
-        1 => name(b'J', b'a', b'n'),
-        2 => name(b'F', b'e', b'b'),
-        3 => name(b'M', b'a', b'r'),
-        4 => name(b'A', b'p', b'r'),
-        5 => name(b'M', b'a', b'y'),
-        6 => name(b'J', b'u', b'n'),
-        7 => name(b'J', b'u', b'l'),
-        8 => name(b'A', b'u', b'g'),
-        9 => name(b'S', b'e', b'p'),
-        10 => name(b'O', b'c', b't'),
-        11 => name(b'N', b'o', b'v'),
-        12 => name(b'D', b'e', b'c'),
-        _ => name(0, 0, 0),
+        1 => Glyphs::Three(*b"Jan"),
+        2 => Glyphs::Three(*b"Feb"),
+        3 => Glyphs::Three(*b"Mar"),
+        4 => Glyphs::Three(*b"Apr"),
+        5 => Glyphs::Three(*b"May"),
+        6 => Glyphs::Three(*b"Jun"),
+        7 => Glyphs::Three(*b"Jul"),
+        8 => Glyphs::Three(*b"Aug"),
+        9 => Glyphs::Three(*b"Sep"),
+        10 => Glyphs::Three(*b"Oct"),
+        11 => Glyphs::Three(*b"Nov"),
+        12 => Glyphs::Three(*b"Dec"),
+        _ => Glyphs::Three([0; 3]),
     }
 }
 
@@ -91,14 +76,14 @@ fn weekday_name(weekday: u32) -> Glyphs
     ensures { glyphs result ≡ lettered weekday_names weekday }
 {
     match weekday {
-        0 => name(b'M', b'o', b'n'),
-        1 => name(b'T', b'u', b'e'),
-        2 => name(b'W', b'e', b'd'),
-        3 => name(b'T', b'h', b'u'),
-        4 => name(b'F', b'r', b'i'),
-        5 => name(b'S', b'a', b't'),
-        6 => name(b'S', b'u', b'n'),
-        _ => name(0, 0, 0),
+        0 => Glyphs::Three(*b"Mon"),
+        1 => Glyphs::Three(*b"Tue"),
+        2 => Glyphs::Three(*b"Wed"),
+        3 => Glyphs::Three(*b"Thu"),
+        4 => Glyphs::Three(*b"Fri"),
+        5 => Glyphs::Three(*b"Sat"),
+        6 => Glyphs::Three(*b"Sun"),
+        _ => Glyphs::Three([0; 3]),
     }
 }
 
@@ -125,6 +110,7 @@ impl Field {
 
     // What it shows of a moment. Its number is chosen before any digit is made: of digits made in the arms, the compiler makes those of
     // every field, each time that a format is gone through.
+    #[tactic(auto, unfolding(crate::specs::inner::Steps::number, crate::specs::Fields::shown))]
     pub(crate) fn shown(self, moment: Moment) -> Glyphs
         requires { 1 ≤ moment.month }
         ensures { glyphs result ≡ shown self moment }
@@ -134,7 +120,14 @@ impl Field {
             Field::MonthName => month_name(n),
             Field::WeekdayName => weekday_name(n),
             Field::DayOfYear => three_digits(n),
-            _ => two_digits(n),
+            Field::Hundredths
+            | Field::Seconds
+            | Field::Minutes
+            | Field::Hours
+            | Field::Day
+            | Field::Month
+            | Field::Century
+            | Field::Year => two_digits(n),
         }
     }
 }

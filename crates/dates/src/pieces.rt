@@ -1,7 +1,7 @@
 // The pieces of a format: bytes that are copied, percent signs and fields.
 ghost use Rattle.std.specs.Prelude.{◌≡◌, ◌≤◌, length};
 ghost use Rattle.paper.specs.Refusals.{longest};
-ghost use Rattle.dates.specs.Fields.{field_named};
+ghost use Rattle.dates.specs.Fields.{pair, field_named};
 ghost use Rattle.dates.specs.Formats.{behind_percent, piece_at};
 
 use crate::fields::Field;
@@ -17,35 +17,29 @@ pub enum Piece {
     Percent,
     // A percent sign and a field's two characters.
     Shown(Field),
-    // A percent sign with anything else behind it.
+    // A percent sign with anything else behind it: a piece and no error, so that one match of `render` meets all five.
     Bad,
 }
 
-// The field that two characters name, the first being the high byte.
+// The field that two characters name.
 #[tactic(auto, unfolding(crate::specs::Fields::field_named, crate::specs::Fields::date_field))]
-fn field_named(name: u32) -> Piece
-    ensures { result ≡ field_named name }
+fn field_named(first: u8, second: u8) -> Option<Field>
+    ensures { result ≡ field_named (pair first second) }
 {
-    match name {
-        0x4353 => Piece::Shown(Field::Hundredths),
-        0x5345 => Piece::Shown(Field::Seconds),
-        0x4D49 => Piece::Shown(Field::Minutes),
-        0x3234 => Piece::Shown(Field::Hours),
-        0x4459 => Piece::Shown(Field::Day),
-        0x4D4E => Piece::Shown(Field::Month),
-        0x4D33 => Piece::Shown(Field::MonthName),
-        0x4345 => Piece::Shown(Field::Century),
-        0x5952 => Piece::Shown(Field::Year),
-        0x444E => Piece::Shown(Field::DayOfYear),
-        0x5733 => Piece::Shown(Field::WeekdayName),
-        _ => Piece::Bad,
+    match (first, second) {
+        (b'C', b'S') => Some(Field::Hundredths),
+        (b'S', b'E') => Some(Field::Seconds),
+        (b'M', b'I') => Some(Field::Minutes),
+        (b'2', b'4') => Some(Field::Hours),
+        (b'D', b'Y') => Some(Field::Day),
+        (b'M', b'N') => Some(Field::Month),
+        (b'M', b'3') => Some(Field::MonthName),
+        (b'C', b'E') => Some(Field::Century),
+        (b'Y', b'R') => Some(Field::Year),
+        (b'D', b'N') => Some(Field::DayOfYear),
+        (b'W', b'3') => Some(Field::WeekdayName),
+        _ => None,
     }
-}
-
-fn wide(b: u8) -> u32
-    ensures { result ≡ b }
-{
-    b as u32
 }
 
 // What a percent sign with two bytes behind it stands for.
@@ -55,10 +49,14 @@ fn behind_percent(a: u8, b: u8) -> Piece
     if a == b'%' {
         return Piece::Percent;
     }
-    field_named(256 * wide(a) + wide(b))
+    match field_named(a, b) {
+        Some(field) => Piece::Shown(field),
+        None => Piece::Bad,
+    }
 }
 
 // The piece at a place of a format.
+#[tactic(auto, using(crate::proofs::Layouts::inside), unfolding(crate::specs::Formats::piece_at))]
 pub(crate) fn piece_at(format: &[u8], at: usize) -> Piece
     requires { length format.now ≤ longest }
     ensures { result ≡ piece_at format.now at }

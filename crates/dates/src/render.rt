@@ -1,7 +1,8 @@
 // The string of a moment by a format, or what is wrong with the format.
-ghost use Rattle.std.specs.Prelude.{◌≡◌, ◌+◌, ◌≤◌, length, set};
+ghost use Rattle.std.specs.Prelude.{◌≡◌, ◌+◌, ◌≤◌, length};
 ghost use Rattle.std.proofs.lemmas.List.Edits.{sets};
 ghost use Rattle.paper.specs.Refusals.{longest};
+ghost use Rattle.runs.specs.Output.{laid_at};
 ghost use Rattle.dates.specs.Formats.{layout_of, string};
 ghost use Rattle.dates.specs.inner.Steps.{glyphs, rendered};
 
@@ -10,74 +11,79 @@ use crate::pieces::{Piece, piece_at};
 use crate::plain::plain_end;
 use calendar::Moment;
 use paper::TextPlace;
-use runs::output::copy;
+use runs::output::{copy, put};
 
-// How many characters the string has, or the first bad field.
+// A format's first bad field: the place of its percent sign.
 #[derive(Clone, Copy)]
-pub(crate) enum Rendered {
-    Characters(usize),
-    BadField(TextPlace),
+pub(crate) struct BadField {
+    pub at: TextPlace,
 }
 
-// Writes the string from the start of `out` on, where there is room for all of it; where there is none this measures. Bytes that stand for
-// themselves go over one by one, or run by run, which is slower for runs of one or two bytes.
-pub(crate) fn render(moment: Moment, format: &[u8], by_runs: bool, out: &mut [u8]) -> Rendered
-    requires { (length format.now ≤ longest) × (1 ≤ moment.month) }
-    ensures answer { result ≡ rendered moment 0 (layout_of format.now) }
-    ensures buffer { length (string moment (layout_of format.now)) ≤ length out.old → out.new ≡ sets out.old 0 (string moment (layout_of format.now)) }
-{
-    let mut at = 0;
-    let mut to = 0;
-    loop {
-        let piece = piece_at(format, at);
-        match piece {
-            Piece::End => return Rendered::Characters(to),
-            Piece::Bad => return Rendered::BadField(TextPlace(at)),
-            Piece::Copied(c) => {
-                if by_runs {
-                    let end = plain_end(format, at);
-                    copy(&format[at..end], to, out);
-                    to += end - at;
-                    at = end;
-                } else {
-                    put(c, to, out);
-                    at += 1;
+// A moment, and the format that its string is made by.
+#[derive(Clone, Copy)]
+pub(crate) struct FormattedMoment<'a> {
+    pub moment: Moment,
+    pub format: &'a [u8],
+    ghost short: { length format.now ≤ longest },
+    // Months are counted from 1.
+    ghost counted: { 1 ≤ moment.month },
+}
+
+impl<'a> FormattedMoment<'a> {
+    // Writes the string from the start of `out` on, where there is room for all of it; where there is none this measures. Bytes that stand
+    // for themselves go over one by one, or run by run, which is slower for runs of one or two bytes: by a flag, since a closure of that
+    // step would take the format, both places and `out`, and say all that the loop says of them. The answer is how many characters the
+    // string has.
+    pub(crate) fn render(&self, by_runs: bool, out: &mut [u8]) -> Result<usize, BadField>
+        ensures answer { result ≡ rendered self.now.moment 0 (layout_of self.now.format.now) }
+        ensures buffer { length (string self.now.moment (layout_of self.now.format.now)) ≤ length out.old → out.new ≡ sets out.old 0 (string self.now.moment (layout_of self.now.format.now)) }
+    {
+        let mut at = 0;
+        let mut to = 0;
+        loop {
+            match piece_at(self.format, at) {
+                Piece::End => return Ok(to),
+                Piece::Bad => return Err(BadField { at: TextPlace(at) }),
+                Piece::Copied(c) => {
+                    if by_runs {
+                        let end = plain_end(self.format, at);
+                        copy(&self.format[at..end], to, out);
+                        to += end - at;
+                        at = end;
+                    } else {
+                        put(c, to, out);
+                        at += 1;
+                        to += 1;
+                    }
+                }
+                Piece::Percent => {
+                    put(b'%', to, out);
+                    at += 2;
                     to += 1;
                 }
-            }
-            Piece::Percent => {
-                put(b'%', to, out);
-                at += 2;
-                to += 1;
-            }
-            Piece::Shown(field) => {
-                to = put_glyphs(field.shown(moment), to, out);
-                at += 3;
+                Piece::Shown(field) => {
+                    to = put_glyphs(field.shown(self.moment), to, out);
+                    at += 3;
+                }
             }
         }
     }
 }
 
-// One byte, where it lies inside.
-fn put(byte: u8, to: usize, out: &mut [u8])
-    ensures { out.new ≡ set out.old to byte }
-{
-    if to < out.len() {
-        out[to] = byte;
-    }
-}
-
-// What a field shows, from `to` on. The answer is the place behind it.
+// What a field shows, from `to` on, where all of it fits. The answer is the place behind it.
 fn put_glyphs(shown: Glyphs, to: usize, out: &mut [u8]) -> usize
     requires { to ≤ longest }
     ensures behind { result ≡ to + length (glyphs shown) }
-    ensures buffer { out.new ≡ sets out.old to (glyphs shown) }
+    ensures buffer { out.new ≡ laid_at out.old to (glyphs shown) }
 {
-    put(shown.first, to, out);
-    put(shown.second, to + 1, out);
-    if shown.three {
-        put(shown.third, to + 2, out);
-        return to + 3;
+    match shown {
+        Glyphs::Two(two) => {
+            copy(&two, to, out);
+            to + 2
+        }
+        Glyphs::Three(three) => {
+            copy(&three, to, out);
+            to + 3
+        }
     }
-    to + 2
 }

@@ -1,34 +1,38 @@
 -- The operators of one level from the left: the one law of all levels. `tighter` is the level of the operands.
-use mathlib.Core.Bool.{◌&&◌}
 use mathlib.Core.List.{List}
-use mathlib.Core.Path.{◌≡◌, refl, sym, ap, subst, ◌∙◌}
+use mathlib.Core.Path.{◌≡◌, refl, sym, ap, ap₂, subst, ◌∙◌}
 use Prim.Native.Nat.{ℕ, zero, suc, ◌+◌, ◌-◌, ◌<◌, ◌≤◌}
 use native.Mathlib.Omega.{arith}
-use lib.Dec.{eqb}
 use lib.ListN.{length}
-use Rattle.paper.proofs.Choice.{either, clash}
+use Rattle.std.specs.Prelude.{Option, Some, None, Ok, Err}
+use Rattle.paper.specs.declared.faults.Fault.{Fault}
+use Rattle.paper.specs.declared.refusals.Refused.{Refused}
+use Rattle.paper.proofs.Choice.{clash}
 use Rattle.variables.specs.Names.{Meaning}
-use Rattle.arithmetic.specs.Operators.{divides}
 use Rattle.tokens.specs.Tokens.{token_at}
 use Rattle.parts.specs.Links.{binds, none, link_by, link_at}
-use Rattle.expressions.specs.Trees.{Tree, Parsed, tree, faulty, joined, extended, operators_from, level_at, operand_at}
-use Rattle.parts.specs.inner.Steps.{link_of, account_of, applied_part, joined_part, link_behind}
-use Rattle.expressions.specs.inner.Steps.{part_of}
+use Rattle.expressions.specs.Trees.{Tree, Parsed, tree, faulty, binary, joined, extended, operators_from, level_at, operand_at}
+use Rattle.parts.specs.inner.Steps.{link_of, Account, account_of, joined_outcome, joined_part}
+use Rattle.expressions.specs.inner.Steps.{outcome_of, part_of}
 use Rattle.arithmetic.specs.declared.operators.Operator.{Operator}
-use Rattle.parts.specs.declared.behind.Behind.{Behind}
-use Rattle.parts.specs.declared.behind.Behind.TheVariants.{Binds, Other}
-use Rattle.parts.specs.declared.Account.{Account}
+use Rattle.parts.specs.declared.behind.Binding.{Binding}
 use Rattle.parts.specs.declared.Part.{Part}
-use Rattle.parts.specs.declared.Part.TheVariants.{Value, Refused, Faulty}
 use Rattle.tokens.proofs.Places.{past_end}
 use Rattle.expressions.proofs.Onward.{Onward, binds_onward, level_onward, operand_onward}
-use Rattle.expressions.proofs.Joins.{tree_part, part_link, part_joined}
+use Rattle.expressions.proofs.Joins.{outcome_joined}
 
--- what remains of a text of so many bytes behind a part
-abbrev pub remaining : ℕ → Part → ℕ
-remaining size (Value value left next) = suc size - next
-remaining size (Refused number place next) = suc size - next
-remaining size (Faulty fault place) = 0
+-- a part that was read is a tree's
+record Read (names : List ℕ → Meaning) (account : Account) (parsed : Parsed) (part : Part) : Type 0 where
+  lhs : Tree
+  parsed_so : parsed ≡ tree lhs part.next
+  is : part.outcome ≡ outcome_of names account lhs
+
+read_so : (names : List ℕ → Meaning) (account : Account) (parsed : Parsed) (part : Part) → Ok part ≡ part_of names account parsed → Read names account parsed part
+read_so names account (tree t next) part e =
+    let ends : part.next ≡ next = cc in
+    let is : part.outcome ≡ outcome_of names account t = cc in
+    record { lhs = t; parsed_so = ap (tree t) (sym ends); is = is }
+read_so names account (faulty fault place) part e = clash (cc)
 
 no_binding : (operator : Operator) (place next : ℕ) → none ≡ binds operator place next → ⊥
 no_binding operator place next e = clash (cc)
@@ -37,106 +41,126 @@ module _ (names : List ℕ → Meaning) (text : List ℕ) (tighter levels : ℕ)
   abbrev below : ℕ → Parsed
   below = level_at text tighter (operand_at text levels)
 
+  abbrev on_from : ℕ → Parsed → Parsed
+  on_from more = operators_from text more (suc tighter) below
+
   below_onward : (at : ℕ) → Onward text at (below at)
   below_onward = level_onward text tighter (operand_at text levels) (operand_onward text levels)
 
-  -- the part so far, as a tree from which the level goes on
+  -- the part so far is a tree's, from which the level goes on
   pub record Chain (account : Account) (at : ℕ) (part : Part) : Type 0 where
     pub more : ℕ
-    pub parsed : Parsed
-    pub is : part ≡ part_of names account parsed
-    pub leads : level_at text (suc tighter) (operand_at text levels) at ≡ operators_from text more (suc tighter) below parsed
-    pub enough : (t : Tree) (next : ℕ) → parsed ≡ tree t next → length text < more + next
+    pub lhs : Tree
+    pub is : part.outcome ≡ outcome_of names account lhs
+    pub leads : level_at text (suc tighter) (operand_at text levels) at ≡ on_from more (tree lhs part.next)
+    pub enough : length text < more + part.next
 
-  operators_done : (account : Account) (more : ℕ) (parsed : Parsed) → link_behind text (suc tighter) (part_of names account parsed) ≡ none
-      → parsed ≡ operators_from text more (suc tighter) below parsed
+  begun : (account : Account) (at : ℕ) (part : Part) → Read names account (below at) part → Chain account at part
+  begun account at part r =
+      record { more = suc (length text); lhs = r.lhs; is = r.is; leads = ap (on_from (suc (length text))) r.parsed_so; enough = omega arith }
+
+  done : (more : ℕ) (lhs : Tree) (here : ℕ) → none ≡ link_at text (suc tighter) here → on_from more (tree lhs here) ≡ tree lhs here
   unfolding operators_from
-  operators_done account zero parsed e = refl
-  operators_done account (suc more) (faulty fault place) e = refl
-  operators_done account (suc more) (tree lhs here) e =
-      ap (λ b. extended b lhs here below (operators_from text more (suc tighter) below)) (sym e ∙ part_link names text (suc tighter) account lhs here)
+  done zero lhs here e = refl
+  done (suc more) lhs here e = ap (λ b. extended b lhs here below (on_from more)) (sym e)
 
   -- past the end no operator binds
-  none_past : (here place next : ℕ) (operator : Operator) → length text ≤ here → link_at text (suc tighter) here ≡ binds operator place next → ⊥
+  none_past : (here place next : ℕ) (operator : Operator) → length text ≤ here → binds operator place next ≡ link_at text (suc tighter) here → ⊥
   none_past here place next operator h e =
       no_binding operator place next
-      (sym (ap (λ t. link_by (suc tighter) t (token_at text here).place (token_at text here).next) (past_end text here h)) ∙ e)
+      (sym (ap (λ t. link_by (suc tighter) t (token_at text here).place (token_at text here).next) (past_end text here h)) ∙ sym e)
 
-  module _ (account : Account) (at : ℕ) (operator : Operator) (place next : ℕ) where
-    go_on : (more : ℕ) (parsed : Parsed) → link_behind text (suc tighter) (part_of names account parsed) ≡ binds operator place next
-        → level_at text (suc tighter) (operand_at text levels) at ≡ operators_from text more (suc tighter) below parsed
-        → ((t : Tree) (n : ℕ) → parsed ≡ tree t n → length text < more + n)
-        → Chain account at (joined_part operator place (part_of names account parsed) (part_of names (account_of (part_of names account parsed)) (below next)))
-    unfolding operators_from
-    go_on more (faulty fault p) e leads enough = absurd (no_binding operator place next e)
-    go_on zero (tree lhs here) e leads enough =
-        absurd
-        (none_past here place next operator (omega (arith, enough lhs here refl)) (sym (part_link names text (suc tighter) account lhs here) ∙ e))
-    go_on (suc more) (tree lhs here) e leads enough =
-        let b = sym (part_link names text (suc tighter) account lhs here) ∙ e in
-        record {
-          more = more;
-          parsed = joined operator place lhs (below next);
-          is = part_joined names operator place account lhs here (below next);
-          leads = leads ∙ ap (λ b. extended b lhs here below (operators_from text more (suc tighter) below)) b;
-          enough = λ t n j. further (below next) (below_onward next) t n j (binds_onward text (suc tighter) here place next operator b) (enough lhs here refl);
-        }
-      where
-        further : (p : Parsed) → Onward text next p → (t : Tree) (n : ℕ) → joined operator place lhs p ≡ tree t n
-            → (here < next) × (next ≤ length text) → length text < suc more + here → length text < more + n
-        further (tree r m) o t n j b h = let same : m ≡ n = cc in omega (arith, o.ends r m refl)
-        further (faulty fault p) o t n j b h = clash (cc)
+  -- an operator that binds joins what is read behind it
+  record Extended (more : ℕ) (lhs : Tree) (here place next : ℕ) (operator : Operator) : Type 0 where
+    fewer : ℕ
+    one_less : more ≡ suc fewer
+    joins : on_from more (tree lhs here) ≡ on_from fewer (joined operator place lhs (below next))
 
-  -- what remains of the text falls
-  part_remaining : (account : Account) (here next : ℕ) (parsed : Parsed) → Onward text next parsed → here < next → next ≤ length text
-      → remaining (length text) (part_of names account parsed) < suc (length text) - here
-  part_remaining account here next (faulty fault p) o h w = omega arith
-  part_remaining account here next (tree t n) o h w =
-      let onward = o.ends t n refl in
-      tree_part names (λ p. remaining (length text) p < suc (length text) - here) account t n (λ left. omega arith) (λ number p. omega arith)
+  extends : (more : ℕ) (lhs : Tree) (here place next : ℕ) (operator : Operator) → length text < more + here
+      → binds operator place next ≡ link_at text (suc tighter) here → Extended more lhs here place next operator
+  unfolding operators_from
+  extends zero lhs here place next operator enough e = absurd (none_past here place next operator (omega arith) e)
+  extends (suc more) lhs here place next operator enough e =
+      record { fewer = more; one_less = refl; joins = ap (λ b. extended b lhs here below (on_from more)) (sym e) }
 
-  joined_remaining : (size : ℕ) (operator : Operator) (place : ℕ) (lhs rhs : Part) → remaining size (joined_part operator place lhs rhs) ≤ remaining size rhs
-  unfolding applied_part
-  joined_remaining size operator place lhs (Faulty fault p) = omega arith
-  joined_remaining size operator place lhs (Refused number p next) = omega arith
-  joined_remaining size operator place (Value l before behind) (Value r left next) =
-      either (λ p. remaining size p ≤ suc size - next) (divides operator && eqb r 0) (λ _. omega arith) (λ _. omega arith)
-  joined_remaining size operator place (Refused number p behind) (Value r left next) = omega arith
-  joined_remaining size operator place (Faulty fault p) (Value r left next) = omega arith
+  -- a refusal of the syntax behind an operator is that of the whole
+  faulted : (fewer : ℕ) (fault : Fault) (place : ℕ) → on_from fewer (faulty fault place) ≡ faulty fault place
+  unfolding operators_from
+  faulted zero fault place = refl
+  faulted (suc fewer) fault place = refl
 
-  falls : (operator : Operator) (place next : ℕ) (account : Account) (part rhs new : Part) → link_behind text (suc tighter) part ≡ binds operator place next
-      → rhs ≡ part_of names account (below next) → new ≡ joined_part operator place part rhs → remaining (length text) new < remaining (length text) part
-  falls operator place next account (Faulty fault p) rhs new e r j = absurd (no_binding operator place next e)
-  falls operator place next account (Value value left here) rhs new e r j =
-      let b = binds_onward text (suc tighter) here place next operator e in
-      omega (arith, ap (remaining (length text)) j, ap (remaining (length text)) r, joined_remaining (length text) operator place (Value value left here) rhs, part_remaining account here next (below next) (below_onward next) b.0 b.1)
-  falls operator place next account (Refused number p here) rhs new e r j =
-      let b = binds_onward text (suc tighter) here place next operator e in
-      omega (arith, ap (remaining (length text)) j, ap (remaining (length text)) r, joined_remaining (length text) operator place (Refused number p here) rhs, part_remaining account here next (below next) (below_onward next) b.0 b.1)
+  first_fails : (account : Account) (more : ℕ) (why : Refused) (p : Parsed) → Err why ≡ part_of names account p → Err why ≡ part_of names account (on_from more p)
+  first_fails account more why (faulty fault first) e = e ∙ ap (part_of names account) (sym (faulted more fault first))
+  first_fails account more why (tree lhs next) e = clash (cc)
 
--- how a level's loop goes: its first operand, and the token behind the part so far
-module _ {names : List ℕ → Meaning} {text : List ℕ} {tighter levels : ℕ} {account : Account} {at : ℕ} {part : Part} where
-  pub begins : part ≡ part_of names account (level_at text tighter (operand_at text levels) at) → Chain names text tighter levels account at part
-  begins e = record { more = suc (length text); parsed = _; is = e; leads = refl; enough = λ t next _. omega arith }
+  next_fails : (account behind : Account) (operator : Operator) (place : ℕ) (lhs : Tree) (fewer : ℕ) (why : Refused) (p : Parsed)
+      → Err why ≡ part_of names behind p → Err why ≡ part_of names account (on_from fewer (joined operator place lhs p))
+  next_fails account behind operator place lhs fewer why (faulty fault first) e = first_fails account fewer why (faulty fault first) e
+  next_fails account behind operator place lhs fewer why (tree rhs next) e = clash (cc)
 
-  module _ {found : Behind} (c : Chain names text tighter levels account at part) (l : link_of found ≡ link_behind text (suc tighter) part) where
-    -- nothing of the level behind the part: it is the whole
-    pub ends : found ≡ Other → part ≡ part_of names account (level_at text (suc tighter) (operand_at text levels) at)
-    ends e =
-        c.is
-        ∙ ap (part_of names account)
-        (operators_done names text tighter levels account c.more c.parsed (sym (ap (link_behind text (suc tighter)) c.is) ∙ sym l ∙ ap link_of e) ∙ sym c.leads)
+-- no binding stands behind a part where none was found
+not_found : (found : Option Binding) → ((b : Binding) → found ≡ Some b → ⊥) → found ≡ None
+not_found None n = refl
+not_found (Some b) n = absurd (n b refl)
 
-    -- an operator of the level behind the part: both with it are the part so far, and less of the text remains
-    module _ {operator : Operator} {place next : ℕ} {behind : Account} {rhs new : Part} (e : found ≡ Binds operator place next) (b : behind ≡ account_of part)
-        (r : rhs ≡ part_of names behind (level_at text tighter (operand_at text levels) next)) (j : new ≡ joined_part operator place part rhs) where
-      pub goes_on : Chain names text tighter levels account at new
-      goes_on =
-          let below = level_at text tighter (operand_at text levels) next in
-          subst (Chain names text tighter levels account at)
-          (sym (j ∙ ap (joined_part operator place part) (r ∙ ap (λ b. part_of names b below) b) ∙ ap (λ p. joined_part operator place p (part_of names (account_of p) below)) c.is))
-          (go_on names text tighter levels account at operator place next c.more c.parsed
-          (sym (ap (link_behind text (suc tighter)) c.is) ∙ sym l ∙ ap link_of e) c.leads c.enough)
+-- how a level's loop goes: its first operand, and what stands behind the part so far
+module _ (names : List ℕ → Meaning) (text : List ℕ) (tighter levels : ℕ) (account : Account) (at : ℕ) where
+  pub begins : {part : Part} → Ok part ≡ part_of names account (level_at text tighter (operand_at text levels) at) → Chain names text tighter levels account at part
+  begins {part} e = begun names text tighter levels account at part (read_so names account (level_at text tighter (operand_at text levels) at) part e)
 
-      pub shortens : remaining (length text) new < remaining (length text) part
-      shortens = falls names text tighter levels operator place next behind part rhs new (sym l ∙ ap link_of e) r j
+  -- the first operand is refused, and so is the whole
+  pub fails_at_first : {why : Refused} → Err why ≡ part_of names account (level_at text tighter (operand_at text levels) at)
+      → Err why ≡ part_of names account (level_at text (suc tighter) (operand_at text levels) at)
+  fails_at_first {why} e = first_fails names text tighter levels account (suc (length text)) why (level_at text tighter (operand_at text levels) at) e
+
+module _ {names : List ℕ → Meaning} {text : List ℕ} {tighter levels : ℕ} {account : Account} {at : ℕ} {part : Part}
+    (c : Chain names text tighter levels account at part) {found : Option Binding} (l : link_of found ≡ link_at text (suc tighter) part.next) where
+  -- nothing of the level behind the part: it is the whole
+  pub ends : ((b : Binding) → found ≡ Some b → ⊥) → Ok part ≡ part_of names account (level_at text (suc tighter) (operand_at text levels) at)
+  ends n =
+      let e = not_found found n in
+      ap (λ outcome. Ok (record { outcome = outcome; next = part.next })) c.is
+      ∙ ap (part_of names account) (sym (c.leads ∙ done names text tighter levels c.more c.lhs part.next (ap link_of (sym e) ∙ l)))
+
+  -- an operator of the level behind the part, and what is read behind it
+  module _ {b : Binding} (e : found ≡ Some b) where
+    bound : binds b.operator b.place b.next ≡ link_at text (suc tighter) part.next
+    bound = ap link_of (sym e) ∙ l
+
+    step : Extended names text tighter levels c.more c.lhs part.next b.place b.next b.operator
+    step = extends names text tighter levels c.more c.lhs part.next b.place b.next b.operator c.enough bound
+
+    -- the operand is refused, and so is the whole
+    pub fails : (behind : Account) {why : Refused} → Err why ≡ part_of names behind (level_at text tighter (operand_at text levels) b.next)
+        → Err why ≡ part_of names account (level_at text (suc tighter) (operand_at text levels) at)
+    fails behind {why} r =
+        next_fails names text tighter levels account behind b.operator b.place c.lhs step.fewer why (level_at text tighter (operand_at text levels) b.next) r
+        ∙ ap (part_of names account) (sym (c.leads ∙ step.joins))
+
+    -- both operands with the operator are the part so far, and less of the text remains
+    module _ (behind : Account) {rhs new : Part} (r : Ok rhs ≡ part_of names behind (level_at text tighter (operand_at text levels) b.next))
+        (j : new ≡ joined_part b.operator b.place part rhs) where
+      read : Read names behind (level_at text tighter (operand_at text levels) b.next) rhs
+      read = read_so names behind (level_at text tighter (operand_at text levels) b.next) rhs r
+
+      forward : (part.next < rhs.next) × (rhs.next ≤ length text)
+      forward =
+          omega (arith, binds_onward text (suc tighter) part.next b.place b.next b.operator (sym bound), (below_onward names text tighter levels b.next).ends read.lhs rhs.next read.parsed_so)
+
+      pub goes_on : behind ≡ account_of part.outcome → Chain names text tighter levels account at new
+      goes_on h =
+          subst (Chain names text tighter levels account at) (sym j)
+          (record {
+            more = step.fewer;
+            lhs = binary b.operator b.place c.lhs read.lhs;
+            is =
+                ap₂ (joined_outcome b.operator b.place) c.is (read.is ∙ ap (λ a. outcome_of names a read.lhs) (h ∙ ap account_of c.is))
+                ∙ outcome_joined names b.operator b.place c.lhs read.lhs account;
+            leads =
+                c.leads ∙ step.joins
+                ∙ ap (λ p. operators_from text step.fewer (suc tighter) (level_at text tighter (operand_at text levels)) (joined b.operator b.place c.lhs p)) read.parsed_so;
+            enough = omega (arith, c.enough, step.one_less, forward);
+          })
+
+      pub shortens : suc (length text) - new.next < suc (length text) - part.next
+      shortens = let next : new.next ≡ rhs.next = ap (λ (p : Part). p.next) j in omega (arith, forward, next)

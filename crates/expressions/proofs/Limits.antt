@@ -3,16 +3,18 @@ use mathlib.Core.Bool.{◌&&◌}
 use mathlib.Core.List.Memᴰ
 use mathlib.Core.List.Memᴰ.{head}
 use mathlib.Core.List.{List, Memᴰ}
-use mathlib.Core.Path.{◌≡◌, refl, sym, subst}
+use mathlib.Core.Path.{◌≡◌, refl, sym, ap, subst, ◌∙◌}
 use Prim.Native.Nat.{ℕ, zero, suc, ◌≤◌}
 use native.Mathlib.Omega.{arith}
 use lib.Dec.{eqb}
 use lib.ListN.{length}
-use Rattle.paper.specs.Refusals.{no_digit, bad_base, too_big, unknown_name, too_deep, allowance_spent, bad_expression, zero_divisor, not_an_integer, over_length, longest}
-use Rattle.paper.specs.Traces.{fault_number, Trace, Run, finished, refused, run, run_place, ended as end_at, allowed}
+use Rattle.paper.specs.Refusals.{no_digit, bad_base, too_big, unknown_name, too_deep, allowance_spent, bad_expression, zero_divisor, not_an_integer, over_length, longest, refusal_number, refusal_of}
+use Rattle.paper.specs.Traces.{fault_number, Trace, ended as end_at, faults, gives, asks, spends, enters, Run, finished, refused, onward, run, run_place, allowed}
+use Rattle.paper.specs.declared.refusals.Refusal.{Refusal}
 use Rattle.paper.specs.declared.faults.Fault.{Fault}
 use Rattle.paper.specs.declared.faults.Fault.TheVariants.{TooDeep, BadExpression}
 use Rattle.paper.proofs.Choice.{either}
+use Rattle.paper.proofs.Told.{Told, run_told}
 use Rattle.paper.proofs.Placed.{Placed, ended_at, faults_at, asks_on, spends_at, run_placed}
 use Rattle.paper.proofs.Listed.{member, Listed, ended_listed, faults_listed, asks_listed, spends_listed, RunListed, run_listed}
 use Rattle.paper.proofs.DemandThree.{refused_number}
@@ -25,8 +27,7 @@ use Rattle.tokens.specs.Tokens.{fault_of, token_at}
 use Rattle.parts.specs.Links.{Link, binds, none, link_at, wants}
 use Rattle.expressions.specs.Trees.{Tree, constant, variable, unary, binary, Parsed, tree, faulty, joined, covered, extended, Deeper, operators_from, level_at, tree_up_to, operand_by, deepest, one_deeper, started_in, operand_at, whole_tree}
 use Rattle.expressions.specs.Evaluations.{name_steps, divided, tree_value, steps, evaluation}
-use Rattle.expressions.specs.Answers.{reading_of, value_in, evaluated_by, evaluated_over, evaluated, evaluated_number, evaluated_place, met_numbers, evaluate_numbers}
-use Rattle.expressions.specs.declared.Evaluated.{Evaluated}
+use Rattle.expressions.specs.Answers.{Evaluated, reading_of, value_in, evaluated_by, evaluated_over, evaluated, evaluated_number, evaluated_place, met_numbers, evaluate_numbers}
 use Rattle.arithmetic.specs.declared.operators.Operator.{Operator}
 use Rattle.tokens.specs.declared.Token.{Token}
 use Rattle.tokens.specs.declared.Token.TheVariants.{End, Operator as Operates, Number, FaultyNumber, Name, Open, Close, Strange}
@@ -41,12 +42,12 @@ abbrev Mentioned : Fault → Type 0
 Mentioned fault = Memᴰ (fault_number fault) evaluate_numbers
 
 -- a number that the reader refuses is refused with one of three
-fault_in : (fault : Fault) → ((number : ℕ) × (fault ≡ fault_of number)) → Mentioned fault
+fault_in : (fault : Fault) → ((why : Refusal) × (fault ≡ fault_of why)) → Mentioned fault
 unfolding fault_of
-fault_in fault (number, e) =
+fault_in fault (why, e) =
     subst Mentioned (sym e)
-    (either Mentioned (eqb number no_digit) (λ _. member no_digit evaluate_numbers refl)
-    (λ _. either Mentioned (eqb number bad_base) (λ _. member bad_base evaluate_numbers refl) (λ _. member too_big evaluate_numbers refl)))
+    (either Mentioned (eqb (refusal_number why) no_digit) (λ _. member no_digit evaluate_numbers refl)
+    (λ _. either Mentioned (eqb (refusal_number why) bad_base) (λ _. member bad_base evaluate_numbers refl) (λ _. member too_big evaluate_numbers refl)))
 
 module _ (text : List ℕ) where
   abbrev size : ℕ
@@ -200,9 +201,10 @@ pub record Bounded (r : Evaluated) : Type 0 where
   pub listed : Memᴰ (evaluated_number r) evaluate_numbers
 
 by_bounded : (r : Run) (value : ℕ) → run_place r ≤ longest → ((number place : ℕ) → r ≡ refused number place → number ≤ 255) → RunListed evaluate_numbers r
-    → Bounded (evaluated_by r value)
-by_bounded (finished end left) value p n l = record { number = omega arith; place = p; listed = head refl }
-by_bounded (refused number place) value p n l = record { number = n number place refl; place = p; listed = l }
+    → Told r → Bounded (evaluated_by r value)
+by_bounded (finished end left) value p n l t = record { number = omega arith; place = p; listed = head refl }
+by_bounded (refused number place) value p n l t =
+    record { number = omega (arith, t, n number place refl); place = p; listed = subst (λ m. Memᴰ m evaluate_numbers) (sym t) l }
 
 pub evaluated_bounded : (text farm house : List ℕ) (allowance : ℕ) → Bounded (evaluated text farm house allowance)
 unfolding evaluated
@@ -216,7 +218,8 @@ evaluated_bounded text farm house allowance = over (judgement text farm house) r
         by_bounded (run t (allowed allowance)) (value_in text farm house) (omega arith)
         (λ number place q. (refused_number t (allowed allowance) number place q).1)
         (run_listed evaluate_numbers (member allowance_spent evaluate_numbers refl) (reading_listed text farm house) (allowed allowance))
+        (run_told t (allowed allowance))
     over long_text e = record { number = omega arith; place = omega arith; listed = member over_length evaluate_numbers refl }
-    over (bad_table number holder place) e =
-        let w = subst Within (Judging.refused text farm house number holder place e).1 (judged_within farm house) in
+    over (bad_table why holder place) e =
+        let w = subst Within (Judging.refused text farm house why holder place e).1 (judged_within farm house) in
         record { number = w.0; place = w.1; listed = Memᴰ.append_left met_numbers w.2 }

@@ -3,20 +3,20 @@
 use mathlib.Core.List.{List, Memᴰ}
 use mathlib.Core.Path.{◌≡◌, refl, ap, sym, subst, ◌∙◌}
 use Prim.Native.Nat.{ℕ, ◌≤◌, ◌<◌}
-use native.Mathlib.Omega.{arith}
 use lib.ListN.{length}
 use Rattle.paper.specs.Answers.{in_text, counted_in}
-use Rattle.paper.specs.Refusals.{over_length, longest}
+use Rattle.std.specs.Prelude.{Result}
+use Rattle.paper.specs.Refusals.{over_length, longest, refusal_number, refusal_of}
+use Rattle.paper.specs.declared.refusals.BadTableOf.{BadTableOf}
+use Rattle.paper.specs.declared.refusals.Refusal.{Refusal}
+use Rattle.paper.specs.declared.refusals.Refusal.TheVariants.{OverLength}
+use Rattle.paper.proofs.Refused.{refused_above}
 use Rattle.paper.specs.Traces.{Run, finished, refused, run, allowed}
-use Rattle.paper.proofs.DemandThree.{refused_number}
 use Rattle.paper.specs.declared.Holder.{Holder}
 use Rattle.variables.specs.Judgements.{judged as judged_tables, Judgement, good, long_text, bad_table, judged_by, judgement}
-use Rattle.variables.specs.declared.both.Judged.{Judged}
 use Rattle.variables.proofs.Judging as Judging
-use Rattle.variables.proofs.Bounds.{bad_number}
 use Rattle.arithmetic.specs.Values.{signed}
-use Rattle.expressions.specs.Answers.{reading_of, value_in, refused_at, evaluated_by, evaluated_over, evaluated, evaluated_number, evaluated_counted, evaluated_place, evaluated_pattern, evaluated_value, evaluate_numbers}
-use Rattle.expressions.specs.declared.Evaluated.{Evaluated}
+use Rattle.expressions.specs.Answers.{Evaluated, reading_of, value_in, refused_at, evaluated_by, evaluated_over, evaluated, evaluated_number, evaluated_counted, evaluated_place, evaluated_pattern, evaluated_value, evaluate_numbers}
 use Rattle.expressions.proofs.Limits.{evaluated_bounded}
 
 -- a refusal before the text is read: its number, what its place is counted in, its place
@@ -53,17 +53,17 @@ module _ (text farm house : List ℕ) (allowance : ℕ) where
   when_long_text e =
       subst (λ r. RefusedWith r over_length in_text 0) (sym (by_judgement long_text e)) (record { number = refl; counted = refl; place = refl })
 
-  pub when_bad_table : (number : ℕ) (holder : Holder) (place : ℕ) → judgement text farm house ≡ bad_table number holder place
-      → RefusedWith (evaluated text farm house allowance) number (counted_in holder) place
-  when_bad_table number holder place e =
-      subst (λ r. RefusedWith r number (counted_in holder) place) (sym (by_judgement (bad_table number holder place) e))
+  pub when_bad_table : (why : Refusal) (holder : Holder) (place : ℕ) → judgement text farm house ≡ bad_table why holder place
+      → RefusedWith (evaluated text farm house allowance) (refusal_number why) (counted_in holder) place
+  when_bad_table why holder place e =
+      subst (λ r. RefusedWith r (refusal_number why) (counted_in holder) place) (sym (by_judgement (bad_table why holder place) e))
       (record { number = refl; counted = refl; place = refl })
 
   -- the same by the text's length and the judgement of the tables, as the code finds them
-  pub too_long : longest < length text → evaluated text farm house allowance ≡ refused_at over_length 0
+  pub too_long : longest < length text → evaluated text farm house allowance ≡ refused_at OverLength 0
   too_long h = by_judgement long_text (Judging.over text farm house h)
 
-  pub over : (d : Judged) → length text ≤ longest → judged_tables farm house ≡ d
+  pub over : (d : Result ℕ BadTableOf) → length text ≤ longest → judged_tables farm house ≡ d
       → evaluated_over (judged_by d) ran_so (value_in text farm house) ≡ evaluated text farm house allowance
   over d h e = sym (by_judgement (judged_by d) (Judging.within text farm house h ∙ ap judged_by e))
 
@@ -92,11 +92,10 @@ accepted text farm house allowance e = by_judged (judgement text farm house) ref
         }
     by_run j (refused number place) q =
         let is = when_good text farm house allowance j ∙ ap (λ r. evaluated_by r (value_in text farm house)) q in
-        absurd (omega (arith, refused_number (reading_of text farm house) (allowed allowance) number place q, sym (ap evaluated_number is) ∙ e))
+        absurd (refused_above (refusal_of number) (sym (ap evaluated_number is) ∙ e))
 
     by_judged : (j : Judgement) → judgement text farm house ≡ j → Accepted text farm house allowance (evaluated text farm house allowance)
     by_judged good j = by_run j (run (reading_of text farm house) (allowed allowance)) refl
-    by_judged long_text j = absurd (omega (arith, (when_long_text text farm house allowance j).number, e))
-    by_judged (bad_table number holder place) j =
-        let refused = (Judging.refused text farm house number holder place j).1 in
-        absurd (omega (arith, (when_bad_table text farm house allowance number holder place j).number, e, bad_number farm house number holder place refused))
+    by_judged long_text j = absurd (refused_above OverLength (sym (when_long_text text farm house allowance j).number ∙ e))
+    by_judged (bad_table why holder place) j =
+        absurd (refused_above why (sym (when_bad_table text farm house allowance why holder place j).number ∙ e))

@@ -1,7 +1,9 @@
 -- What an evaluation answers.
-use Rattle.std.specs.Prelude.{List, [], ◌∷◌, ◌++◌, ℕ, ℤ}
+use Rattle.std.specs.Prelude.{List, [], ◌∷◌, ◌++◌, ℕ, ℤ, Result, Ok, Err}
 use Rattle.paper.specs.Answers.{in_text, counted_in}
-use Rattle.paper.specs.Refusals.{no_digit, bad_base, too_big, unknown_name, too_deep, allowance_spent, bad_expression, zero_divisor, not_an_integer, over_length}
+use Rattle.paper.specs.Refusals.{no_digit, bad_base, too_big, unknown_name, too_deep, allowance_spent, bad_expression, zero_divisor, not_an_integer, refusal_number, refusal_of}
+use Rattle.paper.specs.declared.refusals.Refusal.{Refusal}
+use Rattle.paper.specs.declared.refusals.Refusal.TheVariants.{OverLength}
 use Rattle.paper.specs.Traces.{Trace, Run, finished, refused, run, allowed}
 use Rattle.variables.specs.Names.{names_of}
 use Rattle.variables.specs.Judgements.{Judgement, good, long_text, bad_table, judgement}
@@ -9,8 +11,9 @@ use Rattle.variables.specs.Tables.{check_numbers}
 use Rattle.expressions.specs.Trees.{whole_tree}
 use Rattle.arithmetic.specs.Values.{signed}
 use Rattle.expressions.specs.Evaluations.{evaluation, result}
-use Rattle.expressions.specs.declared.Evaluated.{Evaluated}
-use Rattle.expressions.specs.declared.Evaluated.TheVariants.{Value, Refused, BadTable}
+use Rattle.expressions.specs.declared.Value.{Value}
+use Rattle.expressions.specs.declared.NotEvaluated.{NotEvaluated}
+use Rattle.expressions.specs.declared.NotEvaluated.TheVariants.{Refused, BadTable}
 
 -- the paper's reading of an expression over two tables, the farm's and the house's, and its value
 abbrev pub reading_of : List ℕ → List ℕ → List ℕ → Trace
@@ -19,18 +22,22 @@ reading_of text farm house = evaluation (names_of farm house) (whole_tree text)
 abbrev pub value_in : List ℕ → List ℕ → List ℕ → ℕ
 value_in text farm house = result (names_of farm house) (whole_tree text)
 
-abbrev pub refused_at : ℕ → ℕ → Evaluated
-refused_at number place = Refused number (record { 0 = place })
+-- a value, or why there is none
+abbrev pub Evaluated : Type 0
+Evaluated = Result Value NotEvaluated
+
+abbrev pub refused_at : Refusal → ℕ → Evaluated
+refused_at why place = Err (Refused (record { why = why; at = record { 0 = place } }))
 
 abbrev pub evaluated_by : Run → ℕ → Evaluated
-evaluated_by (finished end left) value = Value value (record { 0 = end })
-evaluated_by (refused number place) value = refused_at number place
+evaluated_by (finished end left) value = Ok (record { pattern = value; end = record { 0 = end } })
+evaluated_by (refused number place) value = refused_at (refusal_of number) place
 
 -- by what is found before the text is read
 abbrev pub evaluated_over : Judgement → Run → ℕ → Evaluated
 evaluated_over good run value = evaluated_by run value
-evaluated_over long_text run value = refused_at over_length 0
-evaluated_over (bad_table number holder place) run value = BadTable number holder (record { 0 = place })
+evaluated_over long_text run value = refused_at OverLength 0
+evaluated_over (bad_table why holder place) run value = Err (BadTable (record { why = why; holder = holder; at = record { 0 = place } }))
 
 -- 18 for the text, 18 and 13 for the tables, then the syntax, then the evaluation
 unfoldable pub evaluated : List ℕ → List ℕ → List ℕ → ℕ → Evaluated
@@ -40,24 +47,23 @@ evaluated text farm house allowance =
 -- the paper's numbers of an answer: the refusal's number, 0 where accepted; what the place is counted in; the place; the value, 0 where
 -- refused, as its pattern and as the signed number that it stands for
 abbrev pub evaluated_number : Evaluated → ℕ
-evaluated_number (Value pattern end) = 0
-evaluated_number (Refused number place) = number
-evaluated_number (BadTable number holder place) = number
+evaluated_number (Ok value) = 0
+evaluated_number (Err (Refused text)) = refusal_number text.why
+evaluated_number (Err (BadTable bad)) = refusal_number bad.why
 
 abbrev pub evaluated_counted : Evaluated → ℕ
-evaluated_counted (Value pattern end) = in_text
-evaluated_counted (Refused number place) = in_text
-evaluated_counted (BadTable number holder place) = counted_in holder
+evaluated_counted (Ok value) = in_text
+evaluated_counted (Err (Refused text)) = in_text
+evaluated_counted (Err (BadTable bad)) = counted_in bad.holder
 
 abbrev pub evaluated_place : Evaluated → ℕ
-evaluated_place (Value pattern end) = end.0
-evaluated_place (Refused number place) = place.0
-evaluated_place (BadTable number holder place) = place.0
+evaluated_place (Ok value) = value.end.0
+evaluated_place (Err (Refused text)) = text.at.0
+evaluated_place (Err (BadTable bad)) = bad.at.0
 
 abbrev pub evaluated_pattern : Evaluated → ℕ
-evaluated_pattern (Value pattern end) = pattern
-evaluated_pattern (Refused number place) = 0
-evaluated_pattern (BadTable number holder place) = 0
+evaluated_pattern (Ok value) = value.pattern
+evaluated_pattern (Err why) = 0
 
 abbrev pub evaluated_value : Evaluated → ℤ
 evaluated_value r = signed (evaluated_pattern r)

@@ -1,255 +1,136 @@
-// One function for each level of precedence. Each reads the operands one level tighter, with its own operators between them from the
-// left; the tightest is the operand, which calls the loosest level back for a bracket. The keys of the tables go along, for the
-// look-ups of names.
+// One function for each level of precedence, as the rules have it. Each reads the operands one level tighter, with its own operators
+// between them from the left; the tightest is the operand, which calls the loosest level back for a bracket. The five bodies are not
+// one function that is passed the tighter level: a closure in a cycle of calls has to repeat its callee's contract, and is no shorter.
 ghost use Rattle.std.specs.Prelude.{◌≡◌};
 ghost use Rattle.variables.specs.inner.Keys.{Keys};
 ghost use Rattle.variables.specs.Names.{names_of};
 ghost use Rattle.expressions.specs.Trees.{level_at, operand_at};
 ghost use Rattle.expressions.specs.inner.Steps.{part_of};
 
-use parts::behind::{Behind, Wanted, operator_behind};
-use parts::{Account, Part, behind};
+use arithmetic::operators::Level;
+use paper::refusals::{Refusal, Refused};
+use parts::behind::{Wanted, end_behind, operator_behind};
+use parts::{Account, Part, covered, joined, refused};
 use tokens::Token;
+use variables::both::Tables;
+
+// A text over two good tables, and the keys by which its names are looked up in them.
+#[derive(Clone, Copy)]
+pub(crate) struct Source<'a> {
+    pub text: &'a [u8],
+    pub tables: Tables<'a>,
+    pub keys: &'a [u32],
+    ghost own: { Keys tables.farm.now tables.house.now keys.now },
+}
 
 // A number, a name, a bracket, or an operator before an operand. `levels` more unary operators and brackets may stand over it.
 #[cycle(conjunction_disjunction_operand_relation_sum_term)]
-fn operand<'a>(
-    text: &[u8],
-    farm: &'a [u8],
-    house: &'a [u8],
-    keys: &[u32],
-    levels: u8,
-    at: usize,
-    account: Account,
-) -> Part
-    requires { Keys farm.now house.now keys.now }
-    ensures { result ≡ part_of (names_of farm.now house.now) account (operand_at text.now levels at) }
+fn operand(source: &Source<'_>, levels: u8, at: usize, account: Account) -> Result<Part, Refused>
+    ensures { result ≡ part_of (names_of source.now.tables.farm.now source.now.tables.house.now) account (operand_at source.now.text.now levels at) }
 {
-    let first = tokens::token_at(text, at);
-    let token = first.token;
+    let first = tokens::token_at(source.text, at);
     let place = first.place;
     let next = first.next;
-    match token {
-        Token::Number(value) => leaves::number(value, next, account),
-        Token::FaultyNumber(fault, digit) => Part::Faulty {
-            fault,
-            place: digit,
-        },
-        Token::Name => leaves::named(&text[place..next], farm, house, keys, place, next, account),
+    match first.token {
+        Token::Number(pattern) => Ok(leaves::number(pattern, next, account)),
+        Token::FaultyNumber(fault, digit) => Err(refused(Refusal::from(fault), digit)),
+        Token::Name => {
+            let name = &source.text[place..next];
+            Ok(leaves::named(name, &source.tables, source.keys, place, next, account))
+        }
         Token::Operator(operator) => {
             if !operator.stands_alone() {
-                return parts::bad(place);
+                return Err(refused(Refusal::BadExpression, place));
             }
             if levels == 0 {
-                return parts::too_deep(place);
+                return Err(refused(Refusal::TooDeep, place));
             }
-            parts::covered(
-                operator,
-                operand(text, farm, house, keys, levels - 1, next, account),
-            )
+            let inner = operand(source, levels - 1, next, account)?;
+            Ok(covered(operator, inner))
         }
         Token::Open => {
             if levels == 0 {
-                return parts::too_deep(place);
+                return Err(refused(Refusal::TooDeep, place));
             }
-            behind::up_to(
-                text,
-                disjunction(text, farm, house, keys, levels - 1, next, account),
-                Wanted::ClosingBracket,
-            )
+            let inner = disjunction(source, levels - 1, next, account)?;
+            let next = end_behind(source.text, Wanted::ClosingBracket, inner.next)?;
+            Ok(Part { next, ..inner })
         }
-        Token::End => parts::bad(place),
-        Token::Close => parts::bad(place),
-        Token::Strange => parts::bad(place),
+        Token::End | Token::Close | Token::Strange => Err(refused(Refusal::BadExpression, place)),
     }
 }
 
 // * / MOD
 #[cycle(conjunction_disjunction_operand_relation_sum_term)]
-fn term<'a>(
-    text: &[u8],
-    farm: &'a [u8],
-    house: &'a [u8],
-    keys: &[u32],
-    levels: u8,
-    at: usize,
-    account: Account,
-) -> Part
-    requires { Keys farm.now house.now keys.now }
-    ensures { result ≡ part_of (names_of farm.now house.now) account (level_at text.now 1 (operand_at text.now levels) at) }
+fn term(source: &Source<'_>, levels: u8, at: usize, account: Account) -> Result<Part, Refused>
+    ensures { result ≡ part_of (names_of source.now.tables.farm.now source.now.tables.house.now) account (level_at source.now.text.now 1 (operand_at source.now.text.now levels) at) }
 {
-    let mut lhs = operand(text, farm, house, keys, levels, at, account);
-    loop {
-        match operator_behind(text, 1, lhs) {
-            Behind::Other => return lhs,
-            Behind::Binds {
-                operator,
-                place,
-                next,
-            } => {
-                let rhs = operand(
-                    text,
-                    farm,
-                    house,
-                    keys,
-                    levels,
-                    next,
-                    parts::account_of(lhs),
-                );
-                lhs = parts::joined(operator, place, lhs, rhs);
-            }
-        }
+    let mut lhs = operand(source, levels, at, account)?;
+    while let Some(binding) = operator_behind(source.text, Level::Term, lhs.next) {
+        let rhs = operand(source, levels, binding.next, lhs.account())?;
+        lhs = joined(binding, lhs, rhs);
     }
+    Ok(lhs)
 }
 
 // + -
 #[cycle(conjunction_disjunction_operand_relation_sum_term)]
-fn sum<'a>(
-    text: &[u8],
-    farm: &'a [u8],
-    house: &'a [u8],
-    keys: &[u32],
-    levels: u8,
-    at: usize,
-    account: Account,
-) -> Part
-    requires { Keys farm.now house.now keys.now }
-    ensures { result ≡ part_of (names_of farm.now house.now) account (level_at text.now 2 (operand_at text.now levels) at) }
+fn sum(source: &Source<'_>, levels: u8, at: usize, account: Account) -> Result<Part, Refused>
+    ensures { result ≡ part_of (names_of source.now.tables.farm.now source.now.tables.house.now) account (level_at source.now.text.now 2 (operand_at source.now.text.now levels) at) }
 {
-    let mut lhs = term(text, farm, house, keys, levels, at, account);
-    loop {
-        match operator_behind(text, 2, lhs) {
-            Behind::Other => return lhs,
-            Behind::Binds {
-                operator,
-                place,
-                next,
-            } => {
-                let rhs = term(
-                    text,
-                    farm,
-                    house,
-                    keys,
-                    levels,
-                    next,
-                    parts::account_of(lhs),
-                );
-                lhs = parts::joined(operator, place, lhs, rhs);
-            }
-        }
+    let mut lhs = term(source, levels, at, account)?;
+    while let Some(binding) = operator_behind(source.text, Level::Sum, lhs.next) {
+        let rhs = term(source, levels, binding.next, lhs.account())?;
+        lhs = joined(binding, lhs, rhs);
     }
+    Ok(lhs)
 }
 
 // = <> < > <= >= << >> >>>
 #[cycle(conjunction_disjunction_operand_relation_sum_term)]
-fn relation<'a>(
-    text: &[u8],
-    farm: &'a [u8],
-    house: &'a [u8],
-    keys: &[u32],
-    levels: u8,
-    at: usize,
-    account: Account,
-) -> Part
-    requires { Keys farm.now house.now keys.now }
-    ensures { result ≡ part_of (names_of farm.now house.now) account (level_at text.now 3 (operand_at text.now levels) at) }
+fn relation(source: &Source<'_>, levels: u8, at: usize, account: Account) -> Result<Part, Refused>
+    ensures { result ≡ part_of (names_of source.now.tables.farm.now source.now.tables.house.now) account (level_at source.now.text.now 3 (operand_at source.now.text.now levels) at) }
 {
-    let mut lhs = sum(text, farm, house, keys, levels, at, account);
-    loop {
-        match operator_behind(text, 3, lhs) {
-            Behind::Other => return lhs,
-            Behind::Binds {
-                operator,
-                place,
-                next,
-            } => {
-                let rhs = sum(
-                    text,
-                    farm,
-                    house,
-                    keys,
-                    levels,
-                    next,
-                    parts::account_of(lhs),
-                );
-                lhs = parts::joined(operator, place, lhs, rhs);
-            }
-        }
+    let mut lhs = sum(source, levels, at, account)?;
+    while let Some(binding) = operator_behind(source.text, Level::Relation, lhs.next) {
+        let rhs = sum(source, levels, binding.next, lhs.account())?;
+        lhs = joined(binding, lhs, rhs);
     }
+    Ok(lhs)
 }
 
 // AND
 #[cycle(conjunction_disjunction_operand_relation_sum_term)]
-fn conjunction<'a>(
-    text: &[u8],
-    farm: &'a [u8],
-    house: &'a [u8],
-    keys: &[u32],
+fn conjunction(
+    source: &Source<'_>,
     levels: u8,
     at: usize,
     account: Account,
-) -> Part
-    requires { Keys farm.now house.now keys.now }
-    ensures { result ≡ part_of (names_of farm.now house.now) account (level_at text.now 4 (operand_at text.now levels) at) }
+) -> Result<Part, Refused>
+    ensures { result ≡ part_of (names_of source.now.tables.farm.now source.now.tables.house.now) account (level_at source.now.text.now 4 (operand_at source.now.text.now levels) at) }
 {
-    let mut lhs = relation(text, farm, house, keys, levels, at, account);
-    loop {
-        match operator_behind(text, 4, lhs) {
-            Behind::Other => return lhs,
-            Behind::Binds {
-                operator,
-                place,
-                next,
-            } => {
-                let rhs = relation(
-                    text,
-                    farm,
-                    house,
-                    keys,
-                    levels,
-                    next,
-                    parts::account_of(lhs),
-                );
-                lhs = parts::joined(operator, place, lhs, rhs);
-            }
-        }
+    let mut lhs = relation(source, levels, at, account)?;
+    while let Some(binding) = operator_behind(source.text, Level::Conjunction, lhs.next) {
+        let rhs = relation(source, levels, binding.next, lhs.account())?;
+        lhs = joined(binding, lhs, rhs);
     }
+    Ok(lhs)
 }
 
 // OR EOR
 #[cycle(conjunction_disjunction_operand_relation_sum_term)]
-pub(crate) fn disjunction<'a>(
-    text: &[u8],
-    farm: &'a [u8],
-    house: &'a [u8],
-    keys: &[u32],
+pub(crate) fn disjunction(
+    source: &Source<'_>,
     levels: u8,
     at: usize,
     account: Account,
-) -> Part
-    requires { Keys farm.now house.now keys.now }
-    ensures { result ≡ part_of (names_of farm.now house.now) account (level_at text.now 5 (operand_at text.now levels) at) }
+) -> Result<Part, Refused>
+    ensures { result ≡ part_of (names_of source.now.tables.farm.now source.now.tables.house.now) account (level_at source.now.text.now 5 (operand_at source.now.text.now levels) at) }
 {
-    let mut lhs = conjunction(text, farm, house, keys, levels, at, account);
-    loop {
-        match operator_behind(text, 5, lhs) {
-            Behind::Other => return lhs,
-            Behind::Binds {
-                operator,
-                place,
-                next,
-            } => {
-                let rhs = conjunction(
-                    text,
-                    farm,
-                    house,
-                    keys,
-                    levels,
-                    next,
-                    parts::account_of(lhs),
-                );
-                lhs = parts::joined(operator, place, lhs, rhs);
-            }
-        }
+    let mut lhs = conjunction(source, levels, at, account)?;
+    while let Some(binding) = operator_behind(source.text, Level::Disjunction, lhs.next) {
+        let rhs = conjunction(source, levels, binding.next, lhs.account())?;
+        lhs = joined(binding, lhs, rhs);
     }
+    Ok(lhs)
 }

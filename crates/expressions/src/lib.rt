@@ -3,102 +3,80 @@
 
 ghost use Rattle.std.specs.Prelude.{◌≡◌};
 ghost use Rattle.paper.specs.Traces.{run};
-ghost use Rattle.variables.specs.inner.Keys.{Keys};
-ghost use Rattle.expressions.specs.Answers.{reading_of, value_in, refused_at, evaluated_by, evaluated};
-ghost use Rattle.expressions.specs.inner.Steps.{answer_of};
+ghost use Rattle.expressions.specs.Answers.{reading_of, value_in, evaluated_by, evaluated};
+ghost use Rattle.expressions.specs.declared.NotEvaluated.TheVariants as NotEvaluated;
 
 mod levels;
 
-use paper::{Holder, LONGEST, OVER_LENGTH, RecordPlace, TextPlace};
-use parts::behind::Wanted;
-use parts::{Account, Part, behind};
+use levels::Source;
+use paper::refusals::{BadTableOf, Refusal, Refused};
+use paper::{LONGEST, TextPlace};
+use parts::behind::{Wanted, end_behind};
+use parts::refused;
 use variables::both;
-use variables::both::Judged;
+use variables::both::Tables;
 
-// What an evaluation answers.
-#[derive(Clone, Copy)]
-pub enum Evaluated {
-    // The value as a signed 32-bit number's pattern, and the place of the text's end.
-    Value {
-        pattern: u32,
-        end: TextPlace,
-    },
-    Refused {
-        number: u8,
-        at: TextPlace,
-    },
+// The value of an expression as a signed 32-bit number's pattern, and the place of the text's end.
+#[derive(Clone, Copy, PartialEq, Eq)]
+pub struct Value {
+    pub pattern: u32,
+    pub end: TextPlace,
+}
+
+// Why an expression has no value.
+#[derive(Clone, Copy, PartialEq, Eq)]
+pub enum NotEvaluated {
+    Refused(Refused),
     // A table is not good.
-    BadTable {
-        number: u8,
-        holder: Holder,
-        at: RecordPlace,
-    },
+    BadTable(BadTableOf),
+}
+
+impl From<Refused> for NotEvaluated {
+    ghost from_gives = { λ refused not. not ≡ NotEvaluated.Refused refused };
+
+    fn from(refused: Refused) -> NotEvaluated {
+        NotEvaluated::Refused(refused)
+    }
+}
+
+impl From<BadTableOf> for NotEvaluated {
+    ghost from_gives = { λ bad not. not ≡ NotEvaluated.BadTable bad };
+
+    fn from(bad: BadTableOf) -> NotEvaluated {
+        NotEvaluated::BadTable(bad)
+    }
 }
 
 // How many unary operators and brackets may stand over one operand.
 const LEVELS: u8 = 16;
 
-fn refused(number: u8, place: usize) -> Evaluated
-    ensures { result ≡ refused_at number place }
+// A refusal of the syntax comes before every refusal of the evaluation.
+fn evaluate_over(source: &Source<'_>, left: u32) -> Result<Value, NotEvaluated>
+    ensures { result ≡ evaluated_by (run (reading_of source.now.text.now source.now.tables.farm.now source.now.tables.house.now) left) (value_in source.now.text.now source.now.tables.farm.now source.now.tables.house.now) }
 {
-    Evaluated::Refused {
-        number,
-        at: TextPlace(place),
-    }
-}
-
-fn answer_of(part: Part) -> Evaluated
-    ensures { result ≡ answer_of part }
-{
-    match part {
-        Part::Value {
-            value,
-            left: _,
-            next,
-        } => Evaluated::Value {
-            pattern: value,
-            end: TextPlace(next),
-        },
-        Part::Refused {
-            number,
-            place,
-            next: _,
-        } => refused(number, place),
-        Part::Faulty { fault, place } => refused(fault.number(), place),
-    }
-}
-
-// A text over good tables, with their keys.
-fn evaluate_over<'a>(
-    text: &[u8],
-    farm: &'a [u8],
-    house: &'a [u8],
-    keys: &[u32],
-    left: u32,
-) -> Evaluated
-    requires { Keys farm.now house.now keys.now }
-    ensures { result ≡ evaluated_by (run (reading_of text.now farm.now house.now) left) (value_in text.now farm.now house.now) }
-{
-    let part = levels::disjunction(text, farm, house, keys, LEVELS, 0, Account::Open(left));
-    answer_of(behind::up_to(text, part, Wanted::TextEnd))
+    let part = levels::disjunction(source, LEVELS, 0, Ok(left))?;
+    let end = end_behind(source.text, Wanted::TextEnd, part.next)?;
+    let valued = part.outcome?;
+    Ok(Value {
+        pattern: valued.pattern,
+        end: TextPlace(end),
+    })
 }
 
 // The value of an expression, its names those of integer variables of the farm's table and the house's.
 #[tactic(auto, using(crate::proofs::Orders::too_long))]
-pub fn evaluate<'a>(text: &[u8], farm: &'a [u8], house: &'a [u8], allowance: u32) -> Evaluated
-    ensures { result ≡ evaluated text.now farm.now house.now allowance }
+pub fn evaluate(text: &[u8], tables: &Tables<'_>, allowance: u32) -> Result<Value, NotEvaluated>
+    ensures { result ≡ evaluated text.now tables.now.farm.now tables.now.house.now allowance }
 {
     if LONGEST < text.len() {
-        return refused(OVER_LENGTH, 0);
+        return Err(refused(Refusal::OverLength, 0).into());
     }
     let mut keys = both::NO_KEYS;
-    let judged = both::key_tables(farm, house, &mut keys);
-    let lines: &[u32] = &keys;
-    match judged {
-        Judged::BadTable { number, holder, at } => Evaluated::BadTable { number, holder, at },
-        Judged::Good(count) => {
-            let left = paper::allowance::cap(allowance);
-            evaluate_over(text, farm, house, &lines[0..count], left)
-        }
-    }
+    let count = both::key_tables(tables, &mut keys)?;
+    let source = Source {
+        text,
+        tables: *tables,
+        keys: &keys[..count],
+    };
+    evaluate_over(&source, paper::allowance::cap(allowance))
 }

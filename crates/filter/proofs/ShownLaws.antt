@@ -8,25 +8,23 @@ use lib.Dec.{ltb}
 use lib.ListN.{length, drop}
 use borrow.Author.Tests.{ne_eqb}
 use Rattle.paper.specs.Answers.{in_text}
-use Rattle.paper.specs.Refusals.{longest}
+use Rattle.std.specs.Prelude.{Ok, Err}
+use Rattle.paper.specs.Refusals.{longest, refusal_of}
 use Rattle.paper.specs.Traces.{Trace, Run, finished, refused, bytes, run, fit, allowed}
-use Rattle.paper.specs.declared.TextPlace.{TextPlace}
 use Rattle.paper.proofs.Choice.{either}
 use Rattle.paper.proofs.DemandThree.{refused_number}
 use Rattle.variables.specs.Judgements.{Judgement, good, long_text, bad_table, judgement}
 use Rattle.indexes.specs.Indexes.{Given, no_index, fits}
-use Rattle.gs.specs.Translations.{reading_of, refused_at, translated_by, translated_over, left_by, translated, out_after}
+use Rattle.gs.specs.Translations.{Translation, reading_of, refused_at, translated_by, translated_over, left_by, translated, out_after}
 use Rattle.gs.specs.declared.Translated.{Translated}
-use Rattle.gs.specs.declared.Translated.TheVariants.{Written, Refused, BadTable, BadIndex}
-use Rattle.filter.specs.Answers.{shown, answer_to}
+use Rattle.gs.specs.declared.NotTranslated.{NotTranslated}
+use Rattle.filter.specs.Answers.{line_of, shown, answer_to}
 use Rattle.filter.proofs.LineLaws.{Stands}
 
 -- what a translation that is written says of its bytes
-abbrev Sized : Translated → List ℕ → Type 0
-Sized (Written end need free) given = need ≡ length given
-Sized (Refused number at need free) given = Unit {0}
-Sized (BadTable number holder at free) given = Unit {0}
-Sized (BadIndex free) given = Unit {0}
+abbrev Sized : Translation → List ℕ → Type 0
+Sized (Ok t) given = t.need ≡ length given
+Sized (Err r) given = Unit {0}
 
 module _ (trace : Trace) (allowance room : ℕ) where
   sized_run : (r : Run) → run trace allowance ≡ r → Sized (translated_by (fit r (length (bytes trace)) room)) (bytes trace)
@@ -36,7 +34,7 @@ module _ (trace : Trace) (allowance room : ℕ) where
       {y = record { number = 0; counted = in_text; place = end; need = size; free = room - size }} (λ _. tt)
       (λ _. refl)
   sized_run (refused number place) e =
-      subst (λ z. Sized (cond z (Written (record { 0 = place }) 0 room) (refused_at number place 0 room)) (bytes trace))
+      subst (λ z. Sized (cond z (Ok (record { end = record { 0 = place }; need = 0; free = room })) (refused_at (refusal_of number) place 0 room)) (bytes trace))
       (sym (ne_eqb number 0 (λ z. absurd (omega (arith, z, refused_number trace allowance number place e))))) tt
 
 sized_over : (j : Judgement) (fit : Bool) (trace : Trace) (allowance room : ℕ) → Sized (translated_over j fit trace allowance room) (bytes trace)
@@ -53,13 +51,13 @@ sized text farm house given flags allowance room = sized_over (judgement text fa
 -- a translation with an empty table for both, no index and no flags, in the room that the program has
 module _ (text table : List ℕ) (flags : ℕ) (out : List ℕ) (no_table : table ≡ []) (no-flags : flags ≡ 0)
     (room : length out ≡ longest) where
-  abbrev told : Translated
+  abbrev told : Translation
   told = translated text table table no_index flags 0 (length out)
 
   abbrev given : List ℕ
   given = bytes (reading_of text table table flags)
 
-  shown_answer : (r : Translated) → told ≡ r → shown r given ≡ answer_to text
+  shown_answer : (r : Translation) → told ≡ r → shown r given ≡ answer_to text
   unfolding answer_to
   shown_answer r e =
       ap (λ r. shown r given) (sym e)
@@ -67,22 +65,22 @@ module _ (text table : List ℕ) (flags : ℕ) (out : List ℕ) (no_table : tabl
       ∙ ap (λ f. shown (translated text [] [] no_index f 0 (length out)) (bytes (reading_of text [] [] f))) no-flags
       ∙ ap (λ n. shown (translated text [] [] no_index 0 0 n) (bytes (reading_of text [] [] 0))) room
 
-  left_after : (after : List ℕ) (r : Translated) → after ≡ out_after text table table no_index flags 0 out → told ≡ r → after ≡ left_by r given out
+  left_after : (after : List ℕ) (r : Translation) → after ≡ out_after text table table no_index flags 0 out → told ≡ r → after ≡ left_by r given out
   unfolding out_after
   left_after after r b e = b ∙ ap (λ r. left_by r given out) e
 
-  pub written_answer : (after : List ℕ) (end : TextPlace) (need free : ℕ) (answer : Translated) → after ≡ out_after text table table no_index flags 0 out
-      → answer ≡ told → answer ≡ Written end need free → Stands out (answer_to text) need after
-  written_answer after end need free answer b t a =
-      let e : told ≡ Written end need free = sym t ∙ a in
-      let same : given ≡ answer_to text = shown_answer (Written end need free) e in
-      let size : need ≡ length given = subst (λ r. Sized r given) e (sized text table table no_index flags 0 (length out)) in
-      (size ∙ ap length same, left_after after (Written end need free) b e ∙ ap (λ l. l ++ drop need out) same)
+  pub written_answer : (after : List ℕ) (t : Translated) (answer : Translation) → after ≡ out_after text table table no_index flags 0 out
+      → answer ≡ told → answer ≡ Ok t → Stands out (answer_to text) t.need after
+  written_answer after t answer b e a =
+      let is : told ≡ Ok t = sym e ∙ a in
+      let same : given ≡ answer_to text = shown_answer (Ok t) is in
+      let size : t.need ≡ length given = subst (λ r. Sized r given) is (sized text table table no_index flags 0 (length out)) in
+      (size ∙ ap length same, left_after after (Ok t) b is ∙ ap (λ l. l ++ drop t.need out) same)
 
   -- a refusal leaves the buffer to its line
-  pub line_answer : (r answer : Translated) {middle after : List ℕ} {end : ℕ} → left_by r given out ≡ out → middle ≡ out_after text table table no_index flags 0 out
-      → answer ≡ told → answer ≡ r → Stands middle (shown r given) end after → Stands out (answer_to text) end after
-  line_answer r answer {end = end} kept b t a (ends, laid) =
-      let e : told ≡ r = sym t ∙ a in
-      let same : shown r given ≡ answer_to text = shown_answer r e in
-      (ends ∙ ap length same, laid ∙ ap₂ (λ l o. l ++ drop end o) same (left_after _ r b e ∙ kept))
+  pub line_answer : (r : NotTranslated) (answer : Translation) {middle after : List ℕ} {end : ℕ} → middle ≡ out_after text table table no_index flags 0 out
+      → answer ≡ told → answer ≡ Err r → Stands middle (line_of r) end after → Stands out (answer_to text) end after
+  line_answer r answer {end = end} b t a (ends, laid) =
+      let e : told ≡ Err r = sym t ∙ a in
+      let same : line_of r ≡ answer_to text = shown_answer (Err r) e in
+      (ends ∙ ap length same, laid ∙ ap₂ (λ l o. l ++ drop end o) same (left_after _ (Err r) b e))

@@ -2,14 +2,15 @@
 #![tactic(auto)]
 
 ghost use Rattle.std.specs.Prelude.{◌≡◌, ◌++◌, ◌≤◌, length, drop};
-ghost use Rattle.filter.specs.Answers.{answer_to, Answered};
+ghost use Rattle.filter.specs.Answers.{line_of, answer_to, Answered};
 
 mod lines;
 
-use gs::Translated;
-use paper::BAD_INDEX;
+use gs::NotTranslated;
+use paper::refusals::Refusal;
 use std::io::Read;
 use symbols::flags::Flags;
+use variables::both::Tables;
 
 // How many bytes the text has that was read, and how many its answer.
 #[derive(Clone, Copy)]
@@ -18,7 +19,8 @@ pub struct Lengths {
     pub answer: usize,
 }
 
-// How many bytes of the input were read, and whether there is no more of it to read: a read that fails ends it early.
+// How many bytes of the input were read, and whether there is no more of it to read: a read that fails ends it early. No Result: `run`
+// goes on with the number either way, and a match would bind the same one in both arms.
 #[derive(Clone, Copy)]
 struct Taken {
     text: usize,
@@ -32,39 +34,37 @@ pub fn answer(text: &[u8], out: &mut [u8; 65535]) -> usize
     ensures buffer { out.new ≡ answer_to text.now ++ drop result out.old }
 {
     let no_table = &text[0..0];
-    let translated = gs::translate(
-        text,
-        no_table,
-        no_table,
-        no_table,
-        false,
-        Flags::none(),
-        0,
-        out,
-    );
+    let no_tables = Tables {
+        farm: no_table,
+        house: no_table,
+    };
+    let translated = gs::translate(text, &no_tables, None, Flags::none(), 0, out);
     match translated {
-        Translated::Written {
-            end: _,
-            need,
-            free: _,
-        } => need,
-        Translated::Refused {
-            number,
-            at,
-            need: _,
-            free: _,
-        } => lines::refusal(number, at.0, out),
-        Translated::BadTable {
-            number,
-            holder: _,
-            at: record,
-            free: _,
-        } => lines::refusal(number, record.0, out),
-        Translated::BadIndex { free: _ } => lines::refusal(BAD_INDEX, 0, out),
+        Ok(whole) => whole.need,
+        Err(refusal) => explain(refusal, out),
     }
 }
 
-// Reads standard input to the start of a buffer, until it is full, the input ends or a read fails.
+// The line of a refusal, at the start of a buffer. What stands behind it stays.
+fn explain(refusal: NotTranslated, out: &mut [u8]) -> usize
+    requires { 53 ≤ length out.old }
+    ensures length { result ≡ length (line_of refusal) }
+    ensures buffer { out.new ≡ line_of refusal ++ drop result out.old }
+{
+    match refusal {
+        NotTranslated::Refused {
+            why,
+            at,
+            need: _,
+            free: _,
+        } => lines::refusal(why, at.0, out),
+        NotTranslated::BadTable { bad, free: _ } => lines::refusal(bad.why, bad.at.0, out),
+        NotTranslated::BadIndex { free: _ } => lines::refusal(Refusal::BadIndex, 0, out),
+    }
+}
+
+// Reads standard input to the start of a buffer, until it is full, the input ends or a read fails. A loop over `read`, since `read_exact`
+// does not tell how much there was of an input that is shorter than the buffer.
 fn take(rt: &impl Input, input: &mut [u8]) -> Taken
     ensures { result.text ≤ length input.new }
 {
@@ -81,7 +81,7 @@ fn take(rt: &impl Input, input: &mut [u8]) -> Taken
 }
 
 // Writes the answer to a text that was read whole. A text that a failed read cut off gets no answer: nobody could tell it from a
-// whole one's. The exit status does not tell of it, so standard error does.
+// whole one's. The exit status does not tell of it, so standard error does; if that fails too, there is nobody left to tell.
 fn send(rt: &(impl Print + Eprint), whole: bool, answer: &[u8]) {
     if !whole {
         let _ = eprintln!(rt; "translate: standard input failed, nothing was translated");

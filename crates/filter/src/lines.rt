@@ -1,18 +1,20 @@
 // A line composed at the start of a buffer. Each function takes the place where the line ends so far and answers the next one.
 ghost use Rattle.std.specs.Prelude.{◌≡◌, ◌++◌, ◌+◌, ◌≤◌, length, take, drop};
+ghost use Rattle.paper.specs.Refusals.{refusal_number};
 ghost use Rattle.filter.specs.Lines.{decimal, refusal_line};
 
 use itoa::Buffer;
+use paper::refusals::Refusal;
 use runs::output::copy;
 
 // "refused", the number, "at" and the place. What stands behind the line stays.
-pub(crate) fn refusal(number: u8, place: usize, out: &mut [u8]) -> usize
+pub(crate) fn refusal(why: Refusal, place: usize, out: &mut [u8]) -> usize
     requires { 53 ≤ length out.old }
-    ensures length { result ≡ length (refusal_line number place) }
-    ensures buffer { out.new ≡ refusal_line number place ++ drop result out.old }
+    ensures length { result ≡ length (refusal_line (refusal_number why) place) }
+    ensures buffer { out.new ≡ refusal_line (refusal_number why) place ++ drop result out.old }
 {
     let said = put(b"refused ", 0, out);
-    let numbered = put_decimal(number as u64, said, out);
+    let numbered = put_decimal(why.number() as u64, said, out);
     let placed = put(b" at ", numbered, out);
     let ended = put_decimal(place as u64, placed, out);
     put(b"\n", ended, out)

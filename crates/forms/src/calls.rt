@@ -5,10 +5,9 @@ ghost use Rattle.forms.specs.inner.Steps.{form_of};
 
 use crate::forms::Width;
 
-// The family of a call with its width, or that a number is no call's.
+// The family of a call with its width.
 #[derive(Clone, Copy)]
 pub enum Family {
-    NoCall,
     Hex(Width),
     Binary(Width),
     Unsigned(Width),
@@ -29,60 +28,42 @@ fn without_x(call: u32) -> u32
     call
 }
 
+// No From: only a call's distance inside its family is such a number, and one above 4 is none, which the family's range keeps out.
 fn width_number(n: u32) -> Width
     ensures { result ≡ width_number n }
 {
-    if n == 0 {
-        return Width::Nibble;
+    match n {
+        0 => Width::Nibble,
+        1 => Width::Byte,
+        2 => Width::TwoBytes,
+        3 => Width::ThreeBytes,
+        _ => Width::Word,
     }
-    if n == 1 {
-        return Width::Byte;
-    }
-    if n == 2 {
-        return Width::TwoBytes;
-    }
-    if n == 3 {
-        return Width::ThreeBytes;
-    }
-    Width::Word
 }
 
 // &D0 to &E8, each family from its narrowest width to its widest.
 #[tactic(auto, using(std::proofs::lemmas::Bool::Decides::nat_tests), unfolding(crate::specs::Calls::ranged))]
-fn in_range(c: u32) -> Family
+fn in_range(c: u32) -> Option<Family>
     ensures { form_of result ≡ ranged c }
 {
-    if c < 0xD0 {
-        return Family::NoCall;
+    match c {
+        0xD0..=0xD4 => Some(Family::Hex(width_number(c - 0xD0))),
+        0xD5..=0xD8 => Some(Family::Unsigned(width_number(c - 0xD4))),
+        0xD9..=0xDC => Some(Family::Signed(width_number(c - 0xD8))),
+        0xDD..=0xE0 => Some(Family::Binary(width_number(c - 0xDC))),
+        0xE1..=0xE4 => Some(Family::SpacedUnsigned(width_number(c - 0xE0))),
+        0xE5..=0xE8 => Some(Family::SpacedSigned(width_number(c - 0xE4))),
+        _ => None,
     }
-    if c < 0xD5 {
-        return Family::Hex(width_number(c - 0xD0));
-    }
-    if c < 0xD9 {
-        return Family::Unsigned(width_number(c - 0xD4));
-    }
-    if c < 0xDD {
-        return Family::Signed(width_number(c - 0xD8));
-    }
-    if c < 0xE1 {
-        return Family::Binary(width_number(c - 0xDC));
-    }
-    if c < 0xE5 {
-        return Family::SpacedUnsigned(width_number(c - 0xE0));
-    }
-    if c < 0xE9 {
-        return Family::SpacedSigned(width_number(c - 0xE4));
-    }
-    Family::NoCall
 }
 
-// The family of a call. &28 is as &DC, with no zero byte.
-pub fn family_of(call: u32) -> Family
+// The family of a call, if its number is a call's. &28 is as &DC, with no zero byte.
+#[tactic(auto, using(std::proofs::lemmas::Bool::Decides::nat_tests), unfolding(crate::specs::Calls::described))]
+pub fn family_of(call: u32) -> Option<Family>
     ensures { form_of result ≡ described call }
 {
-    let c = without_x(call);
-    if c == 0x28 {
-        return Family::Bare;
+    match without_x(call) {
+        0x28 => Some(Family::Bare),
+        c => in_range(c),
     }
-    in_range(c)
 }

@@ -49,9 +49,9 @@ impl Base {
     {
         let digit = self.last_digit(n);
         if digit < 10 {
-            return (48 + digit) as u8;
+            return b'0' + digit as u8;
         }
-        (55 + digit) as u8
+        b'A' - 10 + digit as u8
     }
 }
 
@@ -72,13 +72,7 @@ impl Width {
     pub(crate) fn span(self) -> u64
         ensures { result ≡ 2 ^ bits self }
     {
-        match self {
-            Width::Nibble => 16,
-            Width::Byte => 256,
-            Width::TwoBytes => 65536,
-            Width::ThreeBytes => 16777216,
-            Width::Word => 4294967296,
-        }
+        1u64 << self.bits()
     }
 
     // The low bits of a value that the width keeps.

@@ -4,6 +4,7 @@ ghost use Rattle.forms.specs.inner.Steps.{number_in};
 
 use crate::forms::{Width, low_part};
 
+// A sign and a size: both always mean something, so that neither is an Option of the other.
 #[derive(Clone, Copy)]
 pub struct Number {
     pub negative: bool,
@@ -11,20 +12,11 @@ pub struct Number {
     pub magnitude: u32,
 }
 
-fn wide(n: u32) -> u64
-    ensures { result ≡ n }
-{
-    n as u64
-}
-
 // Whether the used bits of a width stand for a number below 0.
 fn is_negative(signed: bool, span: u64, used: u32) -> bool
     ensures { result ≡ (signed && leb span (2 * used)) }
 {
-    if signed {
-        return span <= 2 * wide(used);
-    }
-    false
+    signed && span <= 2 * u64::from(used)
 }
 
 // How far the number is from 0. Below 0 that is taken from the width's span, so that the lowest number is never negated in its own
@@ -34,7 +26,7 @@ fn magnitude_of(negative: bool, span: u64, used: u32) -> u32
     ensures { result ≡ cond negative (span - used) used }
 {
     if negative {
-        return (span - wide(used)) as u32;
+        return (span - u64::from(used)) as u32;
     }
     used
 }

@@ -9,4 +9,5 @@ pub mod Fills
 pub mod Orders
 pub mod Meetings
 pub mod Limits
+pub mod Mapped
 pub mod Answers

@@ -1,10 +1,11 @@
 -- How far the numbers of a translation go: every look-up gives 255 bytes at the most, where a table's bytes are bytes.
-use mathlib.Core.Path.{◌≡◌, refl, ap, subst}
+use mathlib.Core.Path.{◌≡◌, refl, ap, sym, subst}
 use mathlib.Core.Bool.{Bool, true, false}
 use mathlib.Core.List.Memᴰ
 use mathlib.Core.List.{List, [], ◌∷◌, Memᴰ}
 use Prim.Native.Nat.{ℕ, zero, suc, ◌+◌, ◌-◌, ◌*◌, ◌≤◌}
 use native.Mathlib.Omega.{arith}
+use borrow.Author.Tests.{eqb-false}
 use lib.Dec.{ltb, eqb}
 use lib.ListN.{length, take, drop, length-append, length-take}
 use Rattle.paper.specs.Answers.{Answer}
@@ -16,16 +17,17 @@ use Rattle.paper.proofs.Placed.{run_placed}
 use Rattle.paper.proofs.Listed.{member, RunListed, run_listed}
 use Rattle.paper.proofs.DemandThree.{refused_number, finished_within}
 use Rattle.reader.specs.Reading.{reading, no_limit}
-use Rattle.reader.specs.declared.Reading.{Reading}
-use Rattle.reader.specs.declared.Reading.TheVariants.{Value, Refused}
+use Rattle.std.specs.Prelude.{Result, Ok, Err}
+use Rattle.paper.specs.Refusals.{refusal_number}
+use Rattle.paper.specs.declared.refusals.Refused.{Refused}
+use Rattle.reader.specs.declared.Number.{Number as Valued}
 use Rattle.forms.specs.Calls.{decimal_of}
 use Rattle.forms.specs.declared.forms.Width.TheVariants.{Word}
 use Rattle.numbers.proofs.Bounds.{decimal_short}
 use Rattle.symbols.specs.Symbols.{symbol_at, first_at, mode_of}
 use Rattle.indexes.specs.Indexes.{Given, fits}
 use Rattle.gs.specs.Readings.{gives_all, deepest, Expand, name_gives, content_gives, symbol_gives, symbols_from, whole_text, expands}
-use Rattle.gs.specs.Translations.{reading_of, translated_by, translated_over, translated, translated_answer, met_numbers, translate_numbers}
-use Rattle.gs.specs.declared.Translated.{Translated}
+use Rattle.gs.specs.Translations.{Translation, reading_of, translated_by, translated_over, translated, translated_answer, met_numbers, translate_numbers}
 use Rattle.symbols.specs.declared.forms.Mode.{Mode}
 use Rattle.symbols.specs.declared.forms.Symbol.{Symbol}
 use Rattle.symbols.specs.declared.forms.Symbol.TheVariants.{End, Byte, Reference as Names, Faulty}
@@ -37,12 +39,13 @@ use Rattle.records.specs.declared.kinds.Kind.TheVariants.{Text, Integer, Macro}
 use Rattle.variables.specs.Holdings.{held_by, Holding, nowhere, held, sought_in_both}
 use Rattle.variables.specs.Names.{Meaning, unknown, string_of, integer_of, macro_of, value_as, meant, in_reading, names_of}
 use Rattle.variables.specs.Judgements.{judged, judged_by}
-use Rattle.variables.specs.declared.both.Judged.{Judged}
-use Rattle.variables.specs.declared.both.Judged.TheVariants.{Good as AllGood, BadTable as OneBad}
+use Rattle.std.specs.Prelude.{Result, Ok, Err}
+use Rattle.paper.specs.declared.refusals.BadTableOf.{BadTableOf}
 use Rattle.variables.proofs.Bounds.{AllBytes, Within, judged_within}
 use Rattle.variables.proofs.Own.{OwnHeld, both_own}
 use Rattle.symbols.proofs.Places.{Stands, quote_of, symbol_stands, first_stands}
 use Rattle.gs.proofs.Meetings.{read_met}
+use Rattle.paper.proofs.Told.{Told, run_told}
 use Rattle.gs.proofs.Orders.{in_order}
 
 -- where the reading succeeds it gives no more bytes than a number of its own and 255 for each look-up
@@ -105,12 +108,12 @@ module _ (expand : Expand) (pays : Paid expand) (name : List ℕ) (place n : ℕ
       short_spends n place (gives_all (decimal_of v) rest) (short_all (decimal_of v) n (n + 255) rest (omega (arith, decimal_short true false Word v)) l)
   name_short (macro_of bs) (macro_fits h) = pays.paid name bs place n rest h l
 
-  content_short : (names : List ℕ → Meaning) (r : Reading) → Fitting (names name) → Short (suc n) (content_gives names expand r name place rest)
+  content_short : (names : List ℕ → Meaning) (r : Result Valued Refused) → Fitting (names name) → Short (suc n) (content_gives names expand r name place rest)
   unfolding content_gives
-  content_short names (Value v) f =
+  content_short names (Ok v) f =
       either (Short (suc n)) (over_code v.value) (λ _. short_faults (suc n) _ place) (λ _. short_gives n v.value rest l)
-  content_short names (Refused number at) f =
-      either (Short (suc n)) (eqb number too_big) (λ _. short_faults (suc n) _ place)
+  content_short names (Err kept) f =
+      either (Short (suc n)) (eqb (refusal_number kept.why) too_big) (λ _. short_faults (suc n) _ place)
       (λ _. short_asks (suc n) name (name_gives expand (names name) name place rest)
       (short_more n (suc n) (name_gives expand (names name) name place rest) (omega arith) (name_short (names name) f)))
 
@@ -184,20 +187,22 @@ module _ (text farm house : List ℕ) (flags allowance room : ℕ) where
   abbrev reads : Trace
   reads = reading_of text farm house flags
 
-  abbrev Numbered : Translated → Type 0
+  abbrev Numbered : Translation → Type 0
   Numbered r = Memᴰ (translated_answer r).number translate_numbers
 
-  listed_by : (r : Run) → RunListed translate_numbers r → Numbered (translated_by (fit r (length (bytes reads)) room))
-  listed_by (finished end left) l =
+  listed_by : (r : Run) → RunListed translate_numbers r → Told r → Numbered (translated_by (fit r (length (bytes reads)) room))
+  listed_by (finished end left) l t =
       either (λ a. Numbered (translated_by a)) (ltb room (length (bytes reads))) (λ _. member no_room translate_numbers refl) (λ _. member 0 translate_numbers refl)
-  listed_by (refused number place) l = either Numbered (eqb number 0) (λ _. member 0 translate_numbers refl) (λ _. l)
+  listed_by (refused number place) l t =
+      either Numbered (eqb number 0) (λ _. member 0 translate_numbers refl) (λ _. subst (λ k. Memᴰ k translate_numbers) (sym t) l)
 
-  listed_over : (d : Judged) (fit : Bool) → Within d → Numbered (translated_over (judged_by d) fit reads allowance room)
-  listed_over (AllGood count) false b = member bad_index translate_numbers refl
-  listed_over (AllGood count) true b =
+  listed_over : (d : Result ℕ BadTableOf) (fit : Bool) → Within d → Numbered (translated_over (judged_by d) fit reads allowance room)
+  listed_over (Ok count) false b = member bad_index translate_numbers refl
+  listed_over (Ok count) true b =
       listed_by (run reads (allowed allowance))
       (run_listed translate_numbers (member allowance_spent translate_numbers refl) (read_met (names_of farm house) 0 text flags).listed (allowed allowance))
-  listed_over (OneBad number holder at) fit b = Memᴰ.append_left (bad_index ∷ met_numbers) b.2
+      (run_told reads (allowed allowance))
+  listed_over (Err bad) fit b = Memᴰ.append_left (bad_index ∷ met_numbers) b.2
 
   pub translated_listed : (given : Given) → Memᴰ (translated_answer (translated text farm house given flags allowance room)).number translate_numbers
   translated_listed given =
@@ -234,13 +239,13 @@ module _ (text farm house : List ℕ) (flags allowance room : ℕ) (bs : AllByte
       let p : place ≤ length text = placed_run e in
       either (λ r. Limited (translated_answer r)) (eqb number 0)
       (λ _. record { number = omega arith; place = omega arith; need = omega arith })
-      (λ _. record { number = omega arith; place = omega arith; need = omega arith })
+      (λ _. record { number = omega (arith, subst Told e (run_told t (allowed allowance))); place = omega arith; need = omega arith })
 
   limited_over :
-      (d : Judged) (fit : Bool) → Within d → length text ≤ longest → Limited (translated_answer (translated_over (judged_by d) fit t allowance room))
-  limited_over (AllGood count) true b h = limited_by (run t (allowed allowance)) h refl
-  limited_over (AllGood count) false b h = record { number = omega arith; place = omega arith; need = omega arith }
-  limited_over (OneBad number holder at) fit b h = record { number = b.0; place = b.1; need = omega arith }
+      (d : Result ℕ BadTableOf) (fit : Bool) → Within d → length text ≤ longest → Limited (translated_answer (translated_over (judged_by d) fit t allowance room))
+  limited_over (Ok count) true b h = limited_by (run t (allowed allowance)) h refl
+  limited_over (Ok count) false b h = record { number = omega arith; place = omega arith; need = omega arith }
+  limited_over (Err bad) fit b h = record { number = b.0; place = b.1; need = omega arith }
 
   pub translated_limited : (given : Given) → Limited (translated_answer (translated text farm house given flags allowance room))
   translated_limited given =

@@ -15,8 +15,10 @@ use Rattle.paper.proofs.Choice.{either}
 use Rattle.paper.proofs.Placed.{Placed, ended_at, faults_at, gives_on, asks_on, spends_at, enters_at}
 use Rattle.paper.proofs.Listed.{member, Listed, ended_listed, faults_listed, gives_listed, asks_listed, spends_listed, enters_listed}
 use Rattle.reader.specs.Reading.{reading, no_limit}
-use Rattle.reader.specs.declared.Reading.{Reading}
-use Rattle.reader.specs.declared.Reading.TheVariants.{Value, Refused}
+use Rattle.std.specs.Prelude.{Result, Ok, Err}
+use Rattle.paper.specs.Refusals.{refusal_number}
+use Rattle.paper.specs.declared.refusals.Refused.{Refused}
+use Rattle.reader.specs.declared.Number.{Number as Valued}
 use Rattle.variables.specs.Names.{Meaning, unknown, string_of, integer_of, macro_of}
 use Rattle.symbols.specs.Symbols.{symbol_at, first_at, mode_of}
 use Rattle.forms.specs.Calls.{decimal_of}
@@ -74,13 +76,13 @@ module _ (expand : Expand) (m : Meets expand) (name : List ℕ) (place size : �
   name_met (integer_of v) = met_spends size place (gives_all (decimal_of v) rest) p (met_all size (decimal_of v) rest l)
   name_met (macro_of bs) = m.meets name bs place size rest p l
 
-  content_met : (names : List ℕ → Meaning) (r : Reading) → Met size (content_gives names expand r name place rest)
+  content_met : (names : List ℕ → Meaning) (r : Result Valued Refused) → Met size (content_gives names expand r name place rest)
   unfolding content_gives
-  content_met names (Value v) =
+  content_met names (Ok v) =
       either (Met size) (over_code v.value) (λ _. met_faults size _ place (member code_over_255 translate_numbers refl) p)
       (λ _. met_gives size v.value rest l)
-  content_met names (Refused number at) =
-      either (Met size) (eqb number too_big) (λ _. met_faults size _ place (member too_big translate_numbers refl) p)
+  content_met names (Err refused) =
+      either (Met size) (eqb (refusal_number refused.why) too_big) (λ _. met_faults size _ place (member too_big translate_numbers refl) p)
       (λ _. met_asks size name (name_gives expand (names name) name place rest) (name_met (names name)))
 
 module _ (names : List ℕ → Meaning) (expand : Expand) (m : Meets expand) (text : List ℕ) (flags : ℕ) where

@@ -14,8 +14,10 @@ use Rattle.paper.specs.declared.faults.Fault.TheVariants as Faults
 use Rattle.paper.proofs.Choice.{either}
 use Rattle.paper.proofs.Stores.{sets_append}
 use Rattle.reader.specs.Reading.{reading, no_limit}
-use Rattle.reader.specs.declared.Reading.{Reading}
-use Rattle.reader.specs.declared.Reading.TheVariants.{Value, Refused}
+use Rattle.std.specs.Prelude.{Result, Ok, Err}
+use Rattle.paper.specs.Refusals.{refusal_number}
+use Rattle.paper.specs.declared.refusals.Refused.{Refused}
+use Rattle.reader.specs.declared.Number.{Number as Valued}
 use Rattle.records.specs.Kinds.{kind_of, variable_at, pattern}
 use Rattle.records.specs.declared.Variable.{Variable}
 use Rattle.records.specs.declared.kinds.Kind.{Kind}
@@ -95,16 +97,16 @@ module _ (farm house name : List ℕ) (expand : Expand) (place : ℕ) (rest : Tr
       kinds Integer = ap (λ v. asks name (spends place (gives_all (decimal_of (pattern v)) rest))) part
       kinds Macro = ap (λ v. asks name (expand name place v rest)) part
 
-  read_piece : (r : Reading) (h : Holding) → OwnHeld farm house h → names_of farm house name ≡ in_reading h
+  read_piece : (r : Result Valued Refused) (h : Holding) → OwnHeld farm house h → names_of farm house name ≡ in_reading h
       → content_gives (names_of farm house) expand r name place rest ≡ piece_of farm house expand (referred_as r (handed farm house h)) name place rest
   unfolding content_gives piece_of
-  read_piece (Value n) h o e = over (over_code n.value)
+  read_piece (Ok n) h o e = over (over_code n.value)
     where
       over : (b : Bool)
           → cond b (faults Faults.CodeOver255 place) (gives n.value rest) ≡ piece_of farm house expand (cond b CodeOver255 (Number n.value)) name place rest
       over true = refl
       over false = refl
-  read_piece (Refused number at) h o e = big (eqb number too_big)
+  read_piece (Err r) h o e = big (eqb (refusal_number r.why) too_big)
     where
       big : (b : Bool)
           → cond b (faults Faults.TooBig place) (asks name (name_gives expand (names_of farm house name) name place rest))
@@ -130,9 +132,9 @@ module _ (farm house : List ℕ) (bytes : AllBytes farm house) where
   variable_small (held holder e) =
       kind_small (kind_of e.kind) (variable_at holder (held_by holder farm house) e) (bytes holder (e.place + 4))
 
-  referred_small : (r : Reading) (h : Holding) → length_in (referred_as r (handed farm house h)) ≤ 255
-  referred_small (Value n) h = either (λ r. length_in r ≤ 255) (over_code n.value) (λ _. omega arith) (λ _. omega arith)
-  referred_small (Refused number at) h = either (λ r. length_in r ≤ 255) (eqb number too_big) (λ _. omega arith) (λ _. variable_small h)
+  referred_small : (r : Result Valued Refused) (h : Holding) → length_in (referred_as r (handed farm house h)) ≤ 255
+  referred_small (Ok n) h = either (λ r. length_in r ≤ 255) (over_code n.value) (λ _. omega arith) (λ _. omega arith)
+  referred_small (Err refused) h = either (λ r. length_in r ≤ 255) (eqb (refusal_number refused.why) too_big) (λ _. omega arith) (λ _. variable_small h)
 
   pub value_small : (name : List ℕ) → length_in (referred_in farm house name) ≤ 255
   unfolding referred_in

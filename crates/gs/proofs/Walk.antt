@@ -1,13 +1,16 @@
 -- The walk through a text, symbol by symbol: what holds between two symbols, what each symbol makes of it, and where it ends.
-use mathlib.Core.Path.{◌≡◌, ap, ap₂, sym, subst, ◌∙◌}
+use mathlib.Core.Path.{◌≡◌, refl, ap, ap₂, sym, subst, ◌∙◌}
 use mathlib.Core.List.{List, [], ◌∷◌, ◌++◌, append_assoc, append-nil}
 use Prim.Native.Nat.{ℕ, zero, suc, ◌+◌, ◌-◌, ◌*◌, ◌≤◌, ◌<◌}
 use native.Mathlib.Nat.{add-zero}
 use native.Mathlib.Omega.{arith}
 use lib.ListN.{length, take, drop, length-append}
-use Rattle.paper.proofs.Choice.{clash}
-use Rattle.paper.specs.Traces.{fault_number, Trace, bytes, run, refused}
+use Rattle.std.specs.Prelude.{Result, Ok, Err}
+use Rattle.paper.specs.Refusals.{refusal_number, refusal_by}
+use Rattle.paper.specs.Traces.{Trace, bytes, run, refused}
 use Rattle.paper.specs.declared.TextPlace.{TextPlace}
+use Rattle.paper.specs.declared.refusals.Refused.{Refused}
+use Rattle.paper.proofs.Refused.{fault_refused}
 use Rattle.paper.specs.declared.faults.Fault.{Fault}
 use Rattle.variables.specs.Names.{Meaning, names_of}
 use Rattle.symbols.specs.Symbols.{symbol_at, first_at, mode_of}
@@ -18,9 +21,6 @@ use Rattle.symbols.specs.declared.forms.Mode.{Mode}
 use Rattle.symbols.specs.declared.forms.Symbol.{Symbol}
 use Rattle.symbols.specs.declared.forms.Symbol.TheVariants.{End, Byte, Reference, Faulty}
 use Rattle.gs.specs.declared.steps.Carried.{Carried}
-use Rattle.gs.specs.declared.steps.Progress.{Progress}
-use Rattle.gs.specs.declared.steps.Progress.TheVariants as Progresses
-use Rattle.gs.specs.declared.steps.Expanded.TheVariants as Expansions
 use Rattle.gs.proofs.Pieces.{laid_none, laid_more, content_piece}
 use Rattle.symbols.proofs.Places.{quote_of, first_stands}
 
@@ -32,21 +32,19 @@ pub record Through (piece : Trace → Trace) (left to far left' : ℕ) (out afte
   pub laid : Laid out to given after
 
 module _ (piece : Trace → Trace) (left to : ℕ) (out after : List ℕ) where
-  pub came_through : (r : Progress) (c : Carried) → Came piece left to out after r → r ≡ Progresses.Going c → Through piece left to c.to c.left out after
-  came_through r c (came_going l given p laid) e =
-      let same : record { to = to + length given; left = l } ≡ c = cc in
-      let same_far : c.to ≡ to + length given = sym (ap (λ (c : Carried). c.to) same) in
-      let same_left : l ≡ c.left = ap (λ (c : Carried). c.left) same in
-      record { given = given; place = same_far; passes = subst (λ l. Passes piece left l given) same_left p; laid = laid }
-  came_through r c (came_refused number place long refuses) e = clash (cc)
+  through : {c : Carried} → Came piece left to out after (Ok c) → Through piece left to c.to c.left out after
+  through (came_going l given p laid) = record { given = given; place = refl; passes = p; laid = laid }
 
-  pub came_to_refusal : (r : Progress) (number place : ℕ) → Came piece left to out after r → r ≡ Progresses.Refused number place
-      → (length after ≡ length out) × ((rest : Trace) → run (piece rest) left ≡ refused number place)
-  came_to_refusal r number place (came_going l given p laid) e = clash (cc)
-  came_to_refusal r number place (came_refused n q long refuses) e =
-      let same_number : n ≡ number = cc in
-      let same_place : q ≡ place = cc in
-      (long, λ rest. refuses rest ∙ ap (λ k. refused k q) same_number ∙ ap (refused number) same_place)
+  pub came_through : (r : Result Carried Refused) (c : Carried) → Came piece left to out after r → r ≡ Ok c → Through piece left to c.to c.left out after
+  came_through r c came e = through (subst (Came piece left to out after) e came)
+
+  refusal_of : {r : Refused} → Came piece left to out after (Err r)
+      → (length after ≡ length out) × ((rest : Trace) → run (piece rest) left ≡ refused (refusal_number r.why) r.at.0)
+  refusal_of (came_refused r long refuses) = (long, refuses)
+
+  pub came_to_refusal : (r : Result Carried Refused) (why : Refused) → Came piece left to out after r → r ≡ Err why
+      → (length after ≡ length out) × ((rest : Trace) → run (piece rest) left ≡ refused (refusal_number why.why) why.at.0)
+  came_to_refusal r why came e = refusal_of (subst (Came piece left to out after) e came)
 
 module _ (names : List ℕ → Meaning) (expand : Expand) (text : List ℕ) (flags left to : ℕ) (out : List ℕ) (mode : Mode) where
   abbrev trace : Trace
@@ -123,19 +121,21 @@ module _ (names : List ℕ → Meaning) (expand : Expand) (text : List ℕ) (fla
             }
 
     pub at_end : (e : TextPlace) → Walk after here far rest → symbol_at text flags mode here ≡ End e
-        → Read trace (length text) left to out after (Expansions.Ended e.0 (record { to = far; left = rest }))
+        → Read trace (length text) left to out after (Ok (record { end = e; carried = record { to = far; left = rest } }))
     unfolding symbol_gives
     at_end e w s =
         let n = next (End e) w s in
         let all : bytes trace ≡ n.given = n.gives ∙ append-nil n.given in
-        subst (λ p. Read trace (length text) left to out after (Expansions.Ended e.0 (record { to = p; left = rest })))
+        subst (λ p. Read trace (length text) left to out after (Ok (record { end = e; carried = record { to = p; left = rest } })))
         (ap (λ l. to + length l) all ∙ sym n.place)
-        (read_ended e.0 rest n.runs (omega (arith, n.small, w.inside, ap length all)) (subst (λ l. Laid out to l after) (sym all) n.laid))
+        (read_ended e rest n.runs (omega (arith, n.small, w.inside, ap length all)) (subst (λ l. Laid out to l after) (sym all) n.laid))
 
     pub at_faulty : (f : Fault) (p : TextPlace) → Walk after here far rest → symbol_at text flags mode here ≡ Faulty f p
-        → Read trace (length text) left to out after (Expansions.Refused (fault_number f) p.0)
+        → Read trace (length text) left to out after (Err (record { why = refusal_by f; at = p }))
     unfolding symbol_gives
-    at_faulty f p w s = let n = next (Faulty f p) w s in read_refused (fault_number f) p.0 n.laid.long n.runs
+    at_faulty f p w s =
+        let n = next (Faulty f p) w s in
+        read_refused (record { why = refusal_by f; at = p }) n.laid.long (n.runs ∙ ap (λ k. refused k p.0) (sym (fault_refused f)))
 
     pub at_byte : (b nxt : ℕ) (after' : List ℕ) → Walk after here far rest → symbol_at text flags mode here ≡ Byte b nxt
         → here < nxt → nxt ≤ length text → Laid after far (b ∷ []) after' → Walk after' nxt (far + 1) rest
@@ -199,7 +199,8 @@ module _ (farm house : List ℕ) (expand : Expand) (text : List ℕ) (flags left
           small = omega (arith, n.small, t.passes.small, length-append n.given g);
         }
 
-    pub at_refused : (number place : ℕ) (after' : List ℕ) → length after' ≡ length after → ((rest' : Trace) → run (piece rest') rest ≡ refused number place)
-        → Read (whole_text (names_of farm house) expand text flags) (length text) left to out after' (Expansions.Refused number place)
-    at_refused number place after' long refuses =
-        read_refused number place (long ∙ n.laid.long) (n.runs ∙ ap (λ t. run t rest) goes ∙ refuses (tail n.less))
+    pub at_refused : (r : Refused) (after' : List ℕ) → length after' ≡ length after
+        → ((rest' : Trace) → run (piece rest') rest ≡ refused (refusal_number r.why) r.at.0)
+        → Read (whole_text (names_of farm house) expand text flags) (length text) left to out after' (Err r)
+    at_refused r after' long refuses =
+        read_refused r (long ∙ n.laid.long) (n.runs ∙ ap (λ t. run t rest) goes ∙ refuses (tail n.less))

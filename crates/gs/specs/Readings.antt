@@ -1,12 +1,12 @@
 -- The reading of a text as a trace, over what names mean.
-use Rattle.std.specs.Prelude.{true, cond, List, [], ◌∷◌, ℕ, zero, suc, ◌-◌, eqb, length, take, drop}
-use Rattle.paper.specs.Refusals.{too_big, over_code}
+use Rattle.std.specs.Prelude.{true, cond, List, [], ◌∷◌, ℕ, zero, suc, ◌-◌, eqb, length, take, drop, Result, Ok, Err}
+use Rattle.paper.specs.Refusals.{too_big, over_code, refusal_number}
+use Rattle.paper.specs.declared.refusals.Refused.{Refused}
 use Rattle.paper.specs.Traces.{Trace, ended, faults, gives, asks, spends, enters}
 use Rattle.paper.specs.declared.faults.Fault.TheVariants.{TooBig, UnknownName, TooDeep, CodeOver255}
 use Rattle.forms.specs.Calls.{decimal_of}
 use Rattle.reader.specs.Reading.{reading, no_limit}
-use Rattle.reader.specs.declared.Reading.TheVariants.{Value, Refused}
-use Rattle.reader.specs.declared.Reading.{Reading as Read}
+use Rattle.reader.specs.declared.Number.{Number}
 use Rattle.variables.specs.Names.{Meaning, unknown, string_of, integer_of, macro_of}
 use Rattle.symbols.specs.Symbols.{symbol_at, first_at, mode_of}
 use Rattle.symbols.specs.declared.forms.Mode.{Mode}
@@ -35,11 +35,11 @@ name_gives expand (macro_of value) name place rest = expand name place value res
 
 module _ (names : List ℕ → Meaning) where
   -- a reference's content: a value gives one byte, and over 255 it is refused; too big is refused; any other refusal makes it a name
-  unfoldable pub content_gives : Expand → Read → List ℕ → ℕ → Trace → Trace
-  content_gives expand (Value n) name place rest = cond (over_code n.value) (faults CodeOver255 place) (gives n.value rest)
-  content_gives expand (Refused number at) name place rest =
+  unfoldable pub content_gives : Expand → Result Number Refused → List ℕ → ℕ → Trace → Trace
+  content_gives expand (Ok n) name place rest = cond (over_code n.value) (faults CodeOver255 place) (gives n.value rest)
+  content_gives expand (Err r) name place rest =
       let asked = asks name (name_gives expand (names name) name place rest) in
-      cond (eqb number too_big) (faults TooBig place) asked
+      cond (eqb (refusal_number r.why) too_big) (faults TooBig place) asked
 
   -- the trace from a symbol on
   unfoldable pub symbol_gives : Expand → List ℕ → ℕ → Symbol → (ℕ → Trace) → Trace

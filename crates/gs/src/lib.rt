@@ -3,41 +3,46 @@
 
 ghost use Rattle.std.specs.Prelude.{◌≡◌, ◌≤◌, length};
 ghost use Rattle.paper.specs.Traces.{bytes, answer};
-ghost use Rattle.indexes.specs.Indexes.{given_by};
-ghost use Rattle.lookups.specs.inner.Through.{Leads};
-ghost use Rattle.gs.specs.Translations.{reading_of, refused_at, translated_by, left_by, translated, out_after};
+ghost use Rattle.indexes.specs.Indexes.{given_as};
+ghost use Rattle.gs.specs.inner.Steps.{not_good};
+ghost use Rattle.gs.specs.Translations.{reading_of, translated_by, left_by, translated, out_after};
 
 mod expansion;
+mod names;
 pub mod steps;
 mod values;
 
-use lookups::{Judged, bytes_given, judge};
+use lookups::{NotGood, bytes_given, judge};
+use names::{Names, are_bytes};
 use paper::allowance::cap;
-use paper::{Holder, LONGEST, NO_ROOM, OVER_LENGTH, RecordPlace, TextPlace};
-use steps::{Carried, Expanded};
+use paper::refusals::{BadTableOf, Refusal};
+use paper::{LONGEST, TextPlace};
+use steps::Carried;
 use symbols::flags::Flags;
 use variables::both;
+use variables::both::Tables;
 
-// What a translation answers.
+// A text that was translated: the place of its end, the bytes written, and the room left.
 #[derive(Clone, Copy)]
-pub enum Translated {
-    // The place of the text's end, the bytes written, and the room left.
-    Written {
-        end: TextPlace,
-        need: usize,
-        free: usize,
-    },
+pub struct Translated {
+    pub end: TextPlace,
+    pub need: usize,
+    pub free: usize,
+}
+
+// Why a text was not translated, and the room, which is left as it was.
+#[derive(Clone, Copy)]
+pub enum NotTranslated {
+    // With the room that is enough where there is too little.
     Refused {
-        number: u8,
+        why: Refusal,
         at: TextPlace,
         need: usize,
         free: usize,
     },
     // A table is not good.
     BadTable {
-        number: u8,
-        holder: Holder,
-        at: RecordPlace,
+        bad: BadTableOf,
         free: usize,
     },
     // The index is not the house table's.
@@ -49,101 +54,88 @@ pub enum Translated {
 // How deep macros may go: the outer text has depth 0, and none is named in a text of depth 16.
 const LEVELS: u8 = 16;
 
-fn refused(number: u8, place: usize, need: usize, free: usize) -> Translated
-    ensures { result ≡ refused_at number place need free }
-{
-    Translated::Refused {
-        number,
-        at: TextPlace(place),
-        need,
-        free,
-    }
-}
-
 // A text over good tables. The first pass is lent nothing and measures; only when all of it has room does the second write.
 fn fill<'a>(
     text: &[u8],
-    farm: &'a [u8],
-    house: &'a [u8],
-    keys: &[u32],
-    index: &[u8],
+    names: &Names<'a>,
     flags: Flags,
     left: u32,
     out: &mut [u8],
-) -> Translated
-    requires { (length text.now ≤ 65535) × (left ≤ 1024) × Leads farm.now house.now keys.now index.now }
-    ensures answer { result ≡ translated_by (answer (reading_of text.now farm.now house.now flags.0) left (length out.old)) }
-    ensures buffer { out.new ≡ left_by result (bytes (reading_of text.now farm.now house.now flags.0)) out.old }
+) -> Result<Translated, NotTranslated>
+    requires { (length text.now ≤ 65535) × (left ≤ 1024) }
+    ensures answer { result ≡ translated_by (answer (reading_of text.now names.now.tables.farm.now names.now.tables.house.now flags.0) left (length out.old)) }
+    ensures buffer { out.new ≡ left_by result (bytes (reading_of text.now names.now.tables.farm.now names.now.tables.house.now flags.0)) out.old }
 {
     let room = out.len();
     let begun = Carried { to: 0, left };
-    let measured = expansion::expand(
-        text,
-        farm,
-        house,
-        keys,
-        index,
-        flags,
-        LEVELS,
-        begun,
-        &mut out[0..0],
-    );
-    match measured {
-        Expanded::Refused { number, place } => refused(number, place, 0, room),
-        Expanded::Ended { end, carried } => {
-            let need = carried.to;
-            if room < need {
-                return refused(NO_ROOM, 0, need, room);
-            }
-            expansion::expand(text, farm, house, keys, index, flags, LEVELS, begun, out);
-            Translated::Written {
-                end: TextPlace(end),
-                need,
-                free: room - need,
-            }
-        }
+    let measured = expansion::expand(text, names, flags, LEVELS, begun, &mut out[0..0]).map_err(
+        |refused| NotTranslated::Refused {
+            why: refused.why,
+            at: refused.at,
+            need: 0,
+            free: room,
+        },
+    )?;
+    let need = measured.carried.to;
+    if room < need {
+        return Err(NotTranslated::Refused {
+            why: Refusal::NoRoom,
+            at: TextPlace(0),
+            need,
+            free: room,
+        });
     }
+    // The same reading, all of which has room now: it comes to the same end.
+    let _ = expansion::expand(text, names, flags, LEVELS, begun, out);
+    Ok(Translated {
+        end: measured.end,
+        need,
+        free: room - need,
+    })
 }
 
 // A text with the references that the variables of the farm's table and the house's resolve, through an index beside the house's where one is
 // given, at the start of `out`: whole, or not at all.
 pub fn translate<'a>(
     text: &[u8],
-    farm: &'a [u8],
-    house: &'a [u8],
-    index: &[u8],
-    indexed: bool,
+    tables: &Tables<'a>,
+    index: Option<&[u8]>,
     flags: Flags,
     allowance: u32,
     out: &mut [u8],
-) -> Translated
-    ensures answer { result ≡ translated text.now farm.now house.now (given_by indexed index.now) flags.0 allowance (length out.old) }
-    ensures buffer { out.new ≡ out_after text.now farm.now house.now (given_by indexed index.now) flags.0 allowance out.old }
+) -> Result<Translated, NotTranslated>
+    ensures answer { result ≡ translated text.now tables.now.farm.now tables.now.house.now (given_as index.entry) flags.0 allowance (length out.old) }
+    ensures buffer { out.new ≡ out_after text.now tables.now.farm.now tables.now.house.now (given_as index.entry) flags.0 allowance out.old }
 {
     let room = out.len();
     if LONGEST < text.len() {
-        return refused(OVER_LENGTH, 0, 0, room);
-    }
-    let mut keys = both::NO_KEYS;
-    let judged = judge(farm, house, index, indexed, &mut keys);
-    let lines: &[u32] = &keys;
-    match judged {
-        Judged::BadTable { number, holder, at } => Translated::BadTable {
-            number,
-            holder,
-            at,
+        return Err(NotTranslated::Refused {
+            why: Refusal::OverLength,
+            at: TextPlace(0),
+            need: 0,
             free: room,
-        },
-        Judged::BadIndex => Translated::BadIndex { free: room },
-        Judged::Good(count) => fill(
-            text,
-            farm,
-            house,
-            &lines[0..count],
-            bytes_given(index, indexed),
-            flags,
-            cap(allowance),
-            out,
-        ),
+        });
+    }
+    // An array with a count beside it: the library has no heap, and the keys of two tables are as many as these at the most.
+    let mut keys = both::NO_KEYS;
+    let count = judge(tables, index, &mut keys).map_err(|why| not_good(why, room))?;
+    let lines: &[u32] = &keys;
+    are_bytes(tables.farm);
+    are_bytes(tables.house);
+    let names = Names {
+        tables: *tables,
+        keys: &lines[0..count],
+        index: bytes_given(index),
+    };
+    fill(text, &names, flags, cap(allowance), out)
+}
+
+// Tables or an index that are not good, as a translation tells it.
+fn not_good(why: NotGood, free: usize) -> NotTranslated
+    ensures { result ≡ not_good why free }
+{
+    match why {
+        NotGood::Table(bad) => NotTranslated::BadTable { bad, free },
+        NotGood::Index => NotTranslated::BadIndex { free },
     }
 }

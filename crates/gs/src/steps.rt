@@ -1,4 +1,5 @@
-// How far a reference and a text come.
+// How far a reference and a text come, where neither is refused.
+use paper::TextPlace;
 
 // What a translation carries along: the bytes that it has given, where the next one goes, and the look-ups that are left.
 #[derive(Clone, Copy)]
@@ -7,16 +8,9 @@ pub struct Carried {
     pub left: u32,
 }
 
-// How far a reference came: as far as this, or to a refusal.
+// The end of a text that was read whole, and what it carried there.
 #[derive(Clone, Copy)]
-pub enum Progress {
-    Going(Carried),
-    Refused { number: u8, place: usize },
-}
-
-// How far a whole text came: to its end, or to a refusal.
-#[derive(Clone, Copy)]
-pub enum Expanded {
-    Ended { end: usize, carried: Carried },
-    Refused { number: u8, place: usize },
+pub struct Expanded {
+    pub end: TextPlace,
+    pub carried: Carried,
 }

@@ -1,5 +1,6 @@
 -- The index of a table: the places of its records in the order of their names, two bytes each, and when an index fits.
-use Rattle.std.specs.Prelude.{Bool, true, cond, List, [], ◌∷◌, ℕ, ◌/◌, ◌%◌}
+use Rattle.std.specs.Borrow.{Bor}
+use Rattle.std.specs.Prelude.{Bool, true, cond, List, [], ◌∷◌, ℕ, ◌/◌, ◌%◌, Option, Some, None}
 use Rattle.records.specs.Records.{Entry, same_bytes, comes_before}
 use Rattle.variables.specs.Tables.{records_of}
 
@@ -32,6 +33,11 @@ pub data Given : Type 0 where
 
 abbrev pub given_by : Bool → List ℕ → Given
 given_by indexed index = cond indexed (given_index index) no_index
+
+-- the same of an index that may be lent
+abbrev pub given_as : Option (Bor (List ℕ)) → Given
+given_as None = no_index
+given_as (Some index) = given_index index.now
 
 -- an index fits exactly when its bytes are those that building gives; where none is given, nothing has to fit
 abbrev pub fits : Given → List ℕ → Bool

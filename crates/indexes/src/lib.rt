@@ -9,21 +9,22 @@ pub mod building;
 
 use paper::Holder;
 use paper::bytes::byte;
+use records::Variable;
 use records::names::{comes_before, same_name};
-use variables::{MOST_RECORDS, Match};
+use variables::MOST_RECORDS;
 
 // The place that an entry of an index holds; past the index's end zeros are read.
+#[tactic(auto, unfolding(crate::specs::inner::Halving::place_in))]
 pub fn place_at(index: &[u8], entry: u32) -> u32
     ensures { (result ≡ place_in index.now entry) × (result ≤ 65535) }
 {
     let at = 2 * (entry as usize);
-    let low = byte(index, at) as u32;
-    let high = byte(index, at + 1) as u32;
-    low + 256 * high
+    u32::from(u16::from_le_bytes([byte(index, at), byte(index, at + 1)]))
 }
 
 // Of some entries the last that a name does not come before, or the first where there is none. A comparison leaves half of them, so
-// that 256 take eight.
+// that 256 take eight. The contract names the halving itself, which says what is found in any bytes: `partition_point` says that only of
+// entries that rise. For an index under way the slice is all the room that is lent, so `count` says how much of it is entries.
 pub(crate) fn nearest(table: &[u8], index: &[u8], count: u32, name: &[u8]) -> u32
     requires { count ≤ 256 }
     ensures { (result ≡ nearest halvings table.now index.now name.now 0 count) × (0 < count → result < count) }
@@ -55,15 +56,15 @@ fn count_of(index: &[u8]) -> u32
 
 // The house's record that a name leads to through an index. Any bytes are taken for one: where it does not fit, what is found may be
 // another record than the table's own look-up finds, or none, or what stands at a place where no record starts.
-pub fn search(table: &[u8], index: &[u8], name: &[u8]) -> Match
+pub fn search(table: &[u8], index: &[u8], name: &[u8]) -> Option<Variable>
     ensures { result ≡ match_in table.now (searched table.now index.now name.now) }
 {
     let count = count_of(index);
     if 0 < count {
         let place = place_at(index, nearest(table, index, count, name));
         if same_name(records::name_at(table, place), name) {
-            return Match::Record(records::variable_at(Holder::House, table, place));
+            return Some(records::variable_at(Holder::House, table, place));
         }
     }
-    Match::Missing
+    None
 }

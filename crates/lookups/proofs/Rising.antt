@@ -9,6 +9,7 @@ use mathlib.Core.Path.{◌≡◌, refl, ap, ap₂, sym, ◌∙◌}
 use Prim.Native.Nat.{ℕ, zero, suc, ◌+◌, ◌*◌, ◌/◌, ◌%◌, ◌<◌, ◌≤◌}
 use native.Mathlib.Omega.{arith}
 use lib.ListN.{length, get_or}
+use Rattle.paper.specs.declared.bits.Bits.{Bits}
 use Rattle.records.specs.Records.{Entry, entry_at, name_at, comes_before}
 use Rattle.indexes.specs.Indexes.{place_bytes}
 use Rattle.indexes.specs.inner.Halving.{place_in, name_in}
@@ -50,7 +51,7 @@ place_later low high rest k =
     let two : 2 * suc k + 1 ≡ suc (suc (2 * k + 1)) = omega arith in
     ap₂ (λ i j. get_or (low ∷ high ∷ rest) i 0 + 256 * get_or (low ∷ high ∷ rest) j 0) one two
 
-module _ (table marks : List ℕ) where
+module _ (table : List ℕ) (marks : Bits 2048) where
   behind_first : (low high : ℕ) (rest : List ℕ) {n : ℕ} → Rises table marks (low ∷ high ∷ rest) (suc n) → Rises table marks rest n
   behind_first low high rest {n} r =
       record { places = λ k h. ap (marked marks) (sym (place_later low high rest k)) ∙ r.places (suc k) (omega arith); rising = rising_later } where

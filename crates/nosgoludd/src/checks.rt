@@ -3,8 +3,6 @@ ghost use Rattle.std.specs.Prelude.{◌≡◌};
 ghost use Rattle.variables.specs.Tables.{checked};
 ghost use Rattle.nosgoludd.specs.Faces.{check_face};
 
-use variables::Checked;
-
 // The refusal's number, 0 where the table is good; how many records; the place, counted in the table.
 #[repr(C)]
 #[derive(Clone, Copy)]
@@ -14,20 +12,21 @@ pub struct NosChecked {
     pub place: usize,
 }
 
+// No `From`, which knows no table: that 32 bits hold the number of records is a fact about a table's check.
 pub fn nos_check_table(table: &[u8]) -> NosChecked
     ensures { result ≡ check_face (checked table.now) }
 {
     let answer = variables::check_table(table);
     match answer {
-        Checked::Good(count) => NosChecked {
+        Ok(count) => NosChecked {
             number: 0,
             records: count as u32,
             place: 0,
         },
-        Checked::BadTable { number, at } => NosChecked {
-            number: number as u32,
+        Err(bad) => NosChecked {
+            number: u32::from(bad.why.number()),
             records: 0,
-            place: at.0,
+            place: bad.at.0,
         },
     }
 }

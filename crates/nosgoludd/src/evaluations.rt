@@ -3,9 +3,9 @@ ghost use Rattle.std.specs.Prelude.{◌≡◌};
 ghost use Rattle.expressions.specs.Answers.{evaluated};
 ghost use Rattle.nosgoludd.specs.Faces.{evaluation_face};
 
-use crate::patterns::signed;
 use crate::{IN_THE_TEXT, counted_in};
-use expressions::Evaluated;
+use expressions::{NotEvaluated, Value};
+use variables::both::Tables;
 
 // The refusal's number, 0 where accepted; what the place is counted in; the place, which is the text's end where accepted; the value.
 #[repr(C)]
@@ -18,33 +18,37 @@ pub struct NosValue {
 }
 
 // An evaluation's answer in its C form.
-fn face(answer: Evaluated) -> NosValue
-    ensures { result ≡ evaluation_face answer }
-{
-    match answer {
-        Evaluated::Value { pattern, end } => NosValue {
-            number: 0,
-            counted: IN_THE_TEXT,
-            place: end.0,
-            value: signed(pattern),
-        },
-        Evaluated::Refused { number, at } => NosValue {
-            number: number as u32,
-            counted: IN_THE_TEXT,
-            place: at.0,
-            value: 0,
-        },
-        Evaluated::BadTable { number, holder, at } => NosValue {
-            number: number as u32,
-            counted: counted_in(holder),
-            place: at.0,
-            value: 0,
-        },
+impl From<Result<Value, NotEvaluated>> for NosValue {
+    ghost from_gives = { λ answer face. face ≡ evaluation_face answer };
+
+    #[tactic(auto, using(arithmetic::proofs::Signs::cast_again), unfolding(arithmetic::specs::Values::signed))]
+    fn from(answer: Result<Value, NotEvaluated>) -> NosValue {
+        match answer {
+            Ok(value) => NosValue {
+                number: 0,
+                counted: IN_THE_TEXT,
+                place: value.end.0,
+                value: value.pattern.cast_signed(),
+            },
+            Err(NotEvaluated::Refused(refused)) => NosValue {
+                number: u32::from(refused.why.number()),
+                counted: IN_THE_TEXT,
+                place: refused.at.0,
+                value: 0,
+            },
+            Err(NotEvaluated::BadTable(bad)) => NosValue {
+                number: u32::from(bad.why.number()),
+                counted: counted_in(bad.holder),
+                place: bad.at.0,
+                value: 0,
+            },
+        }
     }
 }
 
 pub fn nos_evaluate<'a>(text: &[u8], farm: &'a [u8], house: &'a [u8], allowance: u32) -> NosValue
     ensures { result ≡ evaluation_face (evaluated text.now farm.now house.now allowance) }
 {
-    face(expressions::evaluate(text, farm, house, allowance))
+    let tables = Tables { farm, house };
+    NosValue::from(expressions::evaluate(text, &tables, allowance))
 }

@@ -1,12 +1,15 @@
 // What a name means in the two tables.
 ghost use Rattle.std.specs.Prelude.{◌≡◌, not, eqb, ◌≤◌};
+ghost use Rattle.paper.specs.Refusals.{refusal_number};
 ghost use Rattle.indexes.specs.Indexes.{given_by};
 ghost use Rattle.lookups.specs.Lookups.{found_length, looked_up};
 ghost use Rattle.nosgoludd.specs.Faces.{found_face};
 
-use crate::{IN_THE_INDEX, IN_THE_TEXT, counted_in};
-use lookups::Found;
-use paper::{BAD_INDEX, UNKNOWN_NAME};
+use crate::{IN_THE_INDEX, IN_THE_TEXT, counted_in, index_given};
+use lookups::NotGood;
+use paper::refusals::Refusal;
+use records::Variable;
+use variables::both::Tables;
 
 // The refusal's number, 0 where the name is known; what the place is counted in; the record's place; its kind; the length of its value
 // and where that starts in that table.
@@ -21,53 +24,41 @@ pub struct NosVariable {
     pub start: usize,
 }
 
-// A look-up's answer in its C form. A value's length is a byte.
-fn face(answer: Found) -> NosVariable
+// A refusal in the place of a variable.
+fn refused(why: Refusal, counted: u32, place: usize) -> NosVariable
+    ensures { result ≡ record { number = refusal_number why; counted = counted; place = place; kind = 0; length = 0; start = 0 } }
+{
+    NosVariable {
+        number: u32::from(why.number()),
+        counted,
+        place,
+        kind: 0,
+        length: 0,
+        start: 0,
+    }
+}
+
+// A look-up's answer in its C form. No `From`, which asks nothing: a value's length has to be a byte here.
+fn face(answer: Result<Option<Variable>, NotGood>) -> NosVariable
     requires { found_length answer ≤ 255 }
     ensures { result ≡ found_face answer }
 {
     match answer {
-        Found::At(v) => {
-            let holder = v.holder;
-            let at = v.at;
-            let kind = v.kind;
-            NosVariable {
-                number: 0,
-                counted: counted_in(holder),
-                place: at.0,
-                kind: kind.number() as u32,
-                length: v.length as u32,
-                start: v.start,
-            }
-        }
-        Found::Unknown => NosVariable {
-            number: UNKNOWN_NAME as u32,
-            counted: IN_THE_TEXT,
-            place: 0,
-            kind: 0,
-            length: 0,
-            start: 0,
+        Ok(Some(v)) => NosVariable {
+            number: 0,
+            counted: counted_in(v.holder),
+            place: v.at.0,
+            kind: u32::from(v.kind.number()),
+            length: v.length as u32,
+            start: v.start,
         },
-        Found::BadTable { number, holder, at } => NosVariable {
-            number: number as u32,
-            counted: counted_in(holder),
-            place: at.0,
-            kind: 0,
-            length: 0,
-            start: 0,
-        },
-        Found::BadIndex => NosVariable {
-            number: BAD_INDEX as u32,
-            counted: IN_THE_INDEX,
-            place: 0,
-            kind: 0,
-            length: 0,
-            start: 0,
-        },
+        Ok(None) => refused(Refusal::UnknownName, IN_THE_TEXT, 0),
+        Err(NotGood::Table(bad)) => refused(bad.why, counted_in(bad.holder), bad.at.0),
+        Err(NotGood::Index) => refused(Refusal::BadIndex, IN_THE_INDEX, 0),
     }
 }
 
-// An unknown name's place is the name's start. There is no index at `indexed` 0, and one at every other number.
+// An unknown name's place is the name's start.
 pub fn nos_look_up<'a>(
     name: &[u8],
     farm: &'a [u8],
@@ -77,5 +68,6 @@ pub fn nos_look_up<'a>(
 ) -> NosVariable
     ensures { result ≡ found_face (looked_up farm.now house.now (given_by (not (eqb indexed 0)) index.now) name.now) }
 {
-    face(lookups::look_up(farm, house, index, indexed != 0, name))
+    let tables = Tables { farm, house };
+    face(lookups::look_up(&tables, index_given(index, indexed), name))
 }

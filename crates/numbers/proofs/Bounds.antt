@@ -105,7 +105,7 @@ unfolding string
 characters form value =
     omega (
       arith,
-      string_length (number_in form.signed form.width value) (radix form.base) (count form (magnitude form value)) form.spaced,
+      string_length (record { number = number_in form.signed form.width value; base = form.base; count = count form (magnitude form value); spaced = form.spaced }),
       one_long (negative form value) 45,
     )
 

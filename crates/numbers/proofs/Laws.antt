@@ -9,9 +9,9 @@ use lib.ListN.{length, length-append}
 use borrow.Author.Tests.{ltb-true, ltb-false, eq-eqb, ne_eqb, eqb-true, eqb-false}
 use Rattle.paper.proofs.Choice.{either}
 use Rattle.forms.specs.Digits.{gap, digits}
-use Rattle.forms.specs.Strings.{minus}
-use Rattle.forms.specs.declared.size.Number.{Number}
-use Rattle.numbers.specs.inner.Steps.{spread_of, gap_before, characters_of, string_of_number}
+use Rattle.forms.specs.Strings.{radix, minus}
+use Rattle.numbers.specs.declared.digits.Figures.{Figures}
+use Rattle.numbers.specs.inner.Steps.{spread_of, gap_before, characters_of, string_of}
 
 -- the last k digits stand in groups of three from the right: how many the first group has
 abbrev pub group_of : ℕ → ℕ
@@ -56,8 +56,8 @@ digits_length b s (suc k) n =
     ap suc (length-append (gap s k) (digits b s k n) ∙ ap (λ m. length (gap s k) + m) (digits_length b s k n))
     ∙ sym (spread_suc s k)
 
--- the string of a number is as long as its minus and its digits with their spaces
-pub string_length : (number : Number) (base k : ℕ) (spaced : Bool) → length (string_of_number number base k spaced) ≡ characters_of number.negative spaced k
-string_length number base k spaced =
-    length-append (minus number.negative) (digits base spaced k number.magnitude)
-    ∙ ap (λ m. length (minus number.negative) + m) (digits_length base spaced k number.magnitude)
+-- the string of figures is as long as their minus and their digits with their spaces
+pub string_length : (f : Figures) → length (string_of f) ≡ characters_of f
+string_length f =
+    length-append (minus f.number.negative) (digits (radix f.base) f.spaced f.count f.number.magnitude)
+    ∙ ap (λ m. length (minus f.number.negative) + m) (digits_length (radix f.base) f.spaced f.count f.number.magnitude)

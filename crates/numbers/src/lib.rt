@@ -7,32 +7,35 @@ ghost use Rattle.forms.specs.Digits.{digit_count};
 ghost use Rattle.forms.specs.Strings.{radix, largest};
 ghost use Rattle.forms.specs.Calls.{fixed, decimal, decimal_of, known};
 ghost use Rattle.numbers.specs.Conversions.{answer_in, buffer_in, answer_of, buffer_of};
-ghost use Rattle.numbers.specs.inner.Steps.{characters_of, string_of_number};
+ghost use Rattle.numbers.specs.inner.Steps.{string_of, decimal_figures};
 
 mod digits;
 
+use digits::Figures;
 use forms::calls::Family;
 use forms::forms::{Base, Width};
 use forms::size::Number;
 use forms::{calls, counts, size};
-use paper::layings::{Converted, claim, put_if};
-use paper::{TextPlace, UNKNOWN_CALL, one_if};
+use paper::TextPlace;
+use paper::layings::{Converted, NotWritten, claim};
+use paper::refusals::Refusal;
 
 // One of the calls by its number: the string of `value` at the start of `buf`, or a refusal that changes nothing. Each family has
-// a call of its own, so that the compiler makes code for each, with no test of what its form is.
-#[tactic(auto, unfolding(crate::specs::Conversions::answer_of, crate::specs::Conversions::buffer_of))]
+// a call of its own, and what it calls is inlined, so that the compiler makes code for each, with no test of what its form is.
+#[tactic(auto, using(crate::proofs::Bounds::hex_digits, crate::proofs::Bounds::binary_digits), unfolding(crate::specs::Conversions::answer_of, crate::specs::Conversions::buffer_of))]
 pub fn convert(call: u32, value: u32, buf: &mut [u8]) -> Converted
     ensures answer { result ≡ converted_by (answer_of call value (length buf.old)) }
     ensures buffer { buf.new ≡ buffer_of call value buf.old }
 {
-    let family = calls::family_of(call);
-    match family {
-        Family::NoCall => Converted::Refused {
-            number: UNKNOWN_CALL,
+    let Some(family) = calls::family_of(call) else {
+        return Err(NotWritten {
+            why: Refusal::UnknownCall,
             at: TextPlace(0),
             need: 0,
             free: buf.len(),
-        },
+        });
+    };
+    match family {
         Family::Hex(width) => write_fixed(Base::Sixteen, width.bits() / 4, width, value, buf),
         Family::Binary(width) => write_fixed(Base::Two, width.bits(), width, value, buf),
         Family::Unsigned(width) => write_decimal(false, false, true, width, value, buf),
@@ -49,16 +52,29 @@ pub fn signed_decimal(value: u32, out: &mut [u8; 11]) -> usize
     ensures length { (result ≡ length (decimal_of value)) × (result ≤ 11) }
     ensures buffer { out.new ≡ decimal_of value ++ drop (length (decimal_of value)) out.old }
 {
-    let number = size::number_in(true, Width::Word, value);
-    let count = counts::count_decimal(number.magnitude);
-    let end = characters(number.negative, false, count);
-    lay_number(number, Base::Ten, count, false, end, out);
-    end
+    let figures = decimal_figures(true, false, Width::Word, value);
+    let length = figures.characters();
+    figures.lay(length, out);
+    length
+}
+
+// All the digits of a number in decimal.
+fn decimal_figures(signed: bool, spaced: bool, width: Width, value: u32) -> Figures
+    ensures { result ≡ decimal_figures signed spaced width value }
+{
+    let number = size::number_in(signed, width, value);
+    Figures {
+        number,
+        base: Base::Ten,
+        count: counts::count_decimal(number.magnitude) as u8,
+        spaced,
+    }
 }
 
 // A string of every digit of a width, with its zero byte.
-fn write_fixed(base: Base, digits: u8, width: Width, value: u32, buf: &mut [u8]) -> Converted
-    requires { digits ≡ digit_count (radix base) (largest width) }
+#[inline(always)]
+fn write_fixed(base: Base, count: u8, width: Width, value: u32, buf: &mut [u8]) -> Converted
+    requires { count ≡ digit_count (radix base) (largest width) }
     ensures answer { result ≡ converted_by (answer_in (known (fixed base width)) value (length buf.old)) }
     ensures buffer { buf.new ≡ buffer_in (known (fixed base width)) value buf.old }
 {
@@ -66,7 +82,13 @@ fn write_fixed(base: Base, digits: u8, width: Width, value: u32, buf: &mut [u8])
         negative: false,
         magnitude: width.low_bits(value),
     };
-    write_number(number, base, digits as usize, false, true, buf)
+    let figures = Figures {
+        number,
+        base,
+        count,
+        spaced: false,
+    };
+    write(figures, true, buf)
 }
 
 // A decimal string, with its zero byte where it is terminated.
@@ -81,50 +103,21 @@ fn write_decimal(
     ensures answer { result ≡ converted_by (answer_in (known (decimal signed spaced terminated width)) value (length buf.old)) }
     ensures buffer { buf.new ≡ buffer_in (known (decimal signed spaced terminated width)) value buf.old }
 {
-    let number = size::number_in(signed, width, value);
-    let count = counts::count_decimal(number.magnitude);
-    write_number(number, Base::Ten, count, spaced, terminated, buf)
+    write(
+        decimal_figures(signed, spaced, width, value),
+        terminated,
+        buf,
+    )
 }
 
-// The last `count` digits of a number and its minus, with a zero byte where it is terminated: whole or not at all.
-fn write_number(
-    number: Number,
-    base: Base,
-    count: usize,
-    spaced: bool,
-    terminated: bool,
-    buf: &mut [u8],
-) -> Converted
-    requires { count ≤ 255 }
-    ensures answer { result ≡ converted_by (laying (string_of_number number (radix base) count spaced) terminated (length buf.old)) }
-    ensures buffer { buf.new ≡ laid_in (string_of_number number (radix base) count spaced) terminated buf.old }
+// A number's figures at the start of a buffer, with a zero byte where they are terminated: whole or not at all.
+#[inline(always)]
+fn write(figures: Figures, terminated: bool, buf: &mut [u8]) -> Converted
+    ensures answer { result ≡ converted_by (laying (string_of figures) terminated (length buf.old)) }
+    ensures buffer { buf.new ≡ laid_in (string_of figures) terminated buf.old }
 {
-    let end = characters(number.negative, spaced, count);
-    let answer = claim(end as u32, terminated, buf);
-    if let Converted::Written {
-        offset: _,
-        need: _,
-        free: _,
-    } = answer
-    {
-        lay_number(number, base, count, spaced, end, buf);
-    }
-    answer
-}
-
-// How many characters `count` digits take with their minus and their spaces.
-fn characters(negative: bool, spaced: bool, count: usize) -> usize
-    requires { count ≤ 255 }
-    ensures { (result ≡ characters_of negative spaced count) × (result ≤ 341) }
-{
-    one_if(negative) + digits::spread(spaced, count)
-}
-
-// The last `count` digits of a number and its minus, from the start of `buf` up to `end`.
-fn lay_number(number: Number, base: Base, count: usize, spaced: bool, end: usize, buf: &mut [u8])
-    requires { (end ≡ characters_of number.negative spaced count) × (end ≤ length buf.old) }
-    ensures { buf.new ≡ string_of_number number (radix base) count spaced ++ drop end buf.old }
-{
-    digits::put_digits(base, spaced, count, number.magnitude, end, buf);
-    put_if(number.negative, b'-', 0, buf);
+    let end = figures.characters();
+    let written = claim(end as u32, terminated, buf)?;
+    figures.lay(end, buf);
+    Ok(written)
 }

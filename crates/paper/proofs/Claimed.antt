@@ -8,12 +8,14 @@ use native.Mathlib.Omega.{arith}
 use lib.Dec.{ltb}
 use lib.ListN.{length, take, drop}
 use lib.Seq.{sets, sets-eq, length-sets, drop_at, length-take-le}
-use Rattle.paper.specs.Refusals.{no_room}
-use Rattle.paper.specs.Layings.{terminator, room_of, laying, laying_of, laid_in, converted_by, converted_answer}
+use Rattle.std.specs.Prelude.{Ok, Err}
+use Rattle.std.specs.Result.{IsErrAnd}
+use Rattle.std.proofs.lemmas.Result.{err_from_is_err_and}
+use Rattle.paper.specs.Layings.{terminator, room_of, laying, laying_of, laid_in, Converted, converted_by, converted_answer}
 use Rattle.paper.specs.inner.Claims.{claimed_in}
-use Rattle.paper.specs.declared.TextPlace.{TextPlace}
-use Rattle.paper.specs.declared.layings.Converted.{Converted}
-use Rattle.paper.specs.declared.layings.Converted.TheVariants.{Written, Refused}
+use Rattle.paper.specs.declared.layings.Written.{Written}
+use Rattle.paper.specs.declared.layings.NotWritten.{NotWritten}
+use Rattle.paper.specs.declared.refusals.Refusal.TheVariants.{NoRoom}
 use Rattle.paper.proofs.Choice.{below, not_below, either, clash}
 
 -- the code's answer has every number of the paper's
@@ -25,9 +27,9 @@ laying_kept characters terminated room =
 
 data Claim (characters : ℕ) (terminated : Bool) (buf : List ℕ) : Converted → List ℕ → Type 0 where
   unclaimed : length buf < room_of characters terminated
-      → Claim characters terminated buf (Refused no_room (record { 0 = 0 }) (room_of characters terminated) (length buf)) buf
+      → Claim characters terminated buf (Err (record { why = NoRoom; at = record { 0 = 0 }; need = room_of characters terminated; free = length buf })) buf
   claimed : room_of characters terminated ≤ length buf
-      → Claim characters terminated buf (Written characters (room_of characters terminated) (length buf - characters)) (sets buf characters (terminator terminated))
+      → Claim characters terminated buf (Ok (record { offset = characters; need = room_of characters terminated; free = length buf - characters })) (sets buf characters (terminator terminated))
 
 claim_of : (characters : ℕ) (terminated : Bool) (buf : List ℕ)
     → Claim characters terminated buf (converted_by (laying_of characters terminated (length buf))) (claimed_in characters terminated buf)
@@ -69,11 +71,16 @@ module _
   pub answers : r ≡ converted_by (laying string terminated (length buf))
   answers = answered ∙ ap (λ n. converted_by (laying_of n terminated (length buf))) (sym long)
 
+  -- and so is what a `?` hands on where there was none
+  pub handed_on : (result : Converted) (refused : NotWritten) → IsErrAnd result (λ e. e ≡ refused) → r ≡ Err refused
+      → result ≡ converted_by (laying string terminated (length buf))
+  handed_on result refused handed is = let e = err_from_is_err_and result handed in e.1 ∙ ap Err e.2 ∙ sym is ∙ answers
+
   -- in claimed room the characters make the string whole
-  pub fits : (offset need free : ℕ) → r ≡ Written offset need free → characters ≤ length after
-  fits offset need free e = go claim e
+  pub fits : (written : Written) → r ≡ Ok written → characters ≤ length after
+  fits written e = go claim e
     where
-      go : {r : Converted} {after : List ℕ} → Claim (length string) terminated buf r after → r ≡ Written offset need free → characters ≤ length after
+      go : {r : Converted} {after : List ℕ} → Claim (length string) terminated buf r after → r ≡ Ok written → characters ≤ length after
       go (unclaimed less) e = absurd (clash (cc))
       go (claimed room) e = omega (arith, long, length-sets buf (length string) (terminator terminated))
 
@@ -88,19 +95,19 @@ module _
       (ap (drop (length string)) (sets-eq (terminator terminated) buf (length string) room ∙ append_assoc (take (length string) buf) (terminator terminated) rest)
       ∙ drop_at (take (length string) buf) (terminator terminated ++ rest) (length string) head))
 
-  pub whole : (offset need free : ℕ) → r ≡ Written offset need free → (last : List ℕ) → last ≡ string ++ drop characters after → last ≡ laid_in string terminated buf
-  whole offset need free e last l = l ∙ ap (λ n. string ++ drop n after) (sym long) ∙ go claim e
+  pub whole : (written : Written) → r ≡ Ok written → (last : List ℕ) → last ≡ string ++ drop characters after → last ≡ laid_in string terminated buf
+  whole written e last l = l ∙ ap (λ n. string ++ drop n after) (sym long) ∙ go claim e
     where
-      go : {r : Converted} {after : List ℕ} → Claim (length string) terminated buf r after → r ≡ Written offset need free
+      go : {r : Converted} {after : List ℕ} → Claim (length string) terminated buf r after → r ≡ Ok written
           → string ++ drop (length string) after ≡ laid_in string terminated buf
       go (unclaimed less) e = absurd (clash (cc))
       go (claimed room) e = behind room
 
   -- where there was none, nothing changed
-  pub kept : (number : ℕ) (at : TextPlace) (need free : ℕ) → r ≡ Refused number at need free → after ≡ laid_in string terminated buf
+  pub kept : (refused : NotWritten) → r ≡ Err refused → after ≡ laid_in string terminated buf
   unfolding laid_in
-  kept number at need free e = go claim e
+  kept refused e = go claim e
     where
-      go : {r : Converted} {after : List ℕ} → Claim (length string) terminated buf r after → r ≡ Refused number at need free → after ≡ laid_in string terminated buf
+      go : {r : Converted} {after : List ℕ} → Claim (length string) terminated buf r after → r ≡ Err refused → after ≡ laid_in string terminated buf
       go (unclaimed less) e = below (length buf) (room_of (length string) terminated) _ _ less refl
       go (claimed room) e = absurd (clash (cc))

@@ -8,3 +8,6 @@ pub mod Made
 pub mod Stores
 pub mod Laid
 pub mod Claimed
+pub mod Refused
+pub mod BitLaws
+pub mod Told

@@ -7,9 +7,7 @@ use native.Mathlib.Numerals.{add-one}
 use native.Mathlib.Omega.{arith}
 use lib.ListN.{length, get_or, drop, length-drop}
 use lib.Seq.{drop-cons}
-use Rattle.paper.specs.Bytes.{run_of, ends, name_byte, word_byte, of_kind}
-use Rattle.paper.specs.declared.bytes.ByteKind.{ByteKind}
-use Rattle.paper.specs.declared.bytes.ByteKind.TheVariants.{Space, Name, Word}
+use Rattle.paper.specs.Bytes.{run_of, ends}
 use Rattle.paper.proofs.Choice.{either, clash}
 
 -- a byte that is not zero stands inside the text
@@ -17,13 +15,6 @@ pub inside : (text : List ℕ) (at : ℕ) → 0 < get_or text at 0 → at < leng
 inside [] at h = omega arith
 inside (x ∷ xs) zero h = omega arith
 inside (x ∷ xs) (suc at) h = omega (arith, inside xs at h)
-
--- the zero is of no kind
-pub of_none : (kind : ByteKind) → of_kind kind 0 ≡ false
-unfolding name_byte word_byte
-of_none Space = refl
-of_none Name = refl
-of_none Word = refl
 
 -- a byte at which no text ends is not zero, and stands inside the text
 pub not_zero : (c : ℕ) → ends c ≡ false → 0 < c

@@ -1,9 +1,9 @@
 -- A string laid at the start of a lent buffer, with or without a zero byte behind it: what is answered, and what the buffer then holds.
-use Rattle.std.specs.Prelude.{Bool, cond, List, [], ◌∷◌, ◌++◌, ℕ, ◌+◌, ◌-◌, ltb, eqb, length, drop}
+use Rattle.std.specs.Prelude.{Bool, cond, List, [], ◌∷◌, ◌++◌, ℕ, ◌+◌, ◌-◌, ltb, eqb, length, drop, Result, Ok, Err}
 use Rattle.paper.specs.Answers.{Answer, in_text}
-use Rattle.paper.specs.Refusals.{no_room}
-use Rattle.paper.specs.declared.layings.Converted.{Converted}
-use Rattle.paper.specs.declared.layings.Converted.TheVariants.{Written, Refused}
+use Rattle.paper.specs.Refusals.{no_room, refusal_number, refusal_of}
+use Rattle.paper.specs.declared.layings.Written.{Written}
+use Rattle.paper.specs.declared.layings.NotWritten.{NotWritten}
 
 -- what stands behind the characters: a zero byte, or nothing
 abbrev pub terminator : Bool → List ℕ
@@ -33,12 +33,18 @@ laid_in string terminated buf =
     buf
     (string ++ (terminator terminated ++ drop (room_for string terminated) buf))
 
+-- what a conversion answers in the code
+abbrev pub Converted : Type 0
+Converted = Result Written NotWritten
+
 -- an answer as the code has it
 abbrev pub converted_by : Answer → Converted
 converted_by a =
-    cond (eqb a.number 0) (Written a.place a.need a.free) (Refused a.number (record { 0 = a.place }) a.need a.free)
+    cond (eqb a.number 0)
+    (Ok (record { offset = a.place; need = a.need; free = a.free }))
+    (Err (record { why = refusal_of a.number; at = record { 0 = a.place }; need = a.need; free = a.free }))
 
 -- the paper's numbers of an answer of the code
 abbrev pub converted_answer : Converted → Answer
-converted_answer (Written offset need free) = record { number = 0; counted = in_text; place = offset; need = need; free = free }
-converted_answer (Refused number at need free) = record { number = number; counted = in_text; place = at.0; need = need; free = free }
+converted_answer (Ok w) = record { number = 0; counted = in_text; place = w.offset; need = w.need; free = w.free }
+converted_answer (Err n) = record { number = refusal_number n.why; counted = in_text; place = n.at.0; need = n.need; free = n.free }

@@ -1,5 +1,10 @@
--- The refusal numbers by name, the longest text or table that is read, and the greatest number of a reference.
-use Rattle.std.specs.Prelude.{Bool, List, ℕ, ltb, length}
+-- The refusals and their numbers by name, a fault as a refusal, the longest text or table that is read, and the greatest number of a
+-- reference.
+use Rattle.std.specs.Prelude.{Bool, List, [], ◌∷◌, ℕ, ◌-◌, get_or, ltb, length}
+use Rattle.paper.specs.declared.faults.Fault.{Fault}
+use Rattle.paper.specs.declared.faults.Fault.TheVariants as Faults
+use Rattle.paper.specs.declared.refusals.Refusal.{Refusal}
+use Rattle.paper.specs.declared.refusals.Refusal.TheVariants.{NoRoom, NoDigit, BadBase, TooBig, NotEnded, OverLimit, BadCode, BadString, BadReference, UnknownName, TooDeep, AllowanceSpent, BadTable, UnknownCall, BadExpression, ZeroDivisor, NotAnInteger, OverLength, BadField, BadIndex, CodeOver255}
 
 abbrev pub no_room : ℕ
 no_room = 1
@@ -63,6 +68,54 @@ bad_index = 20
 
 abbrev pub code_over_255 : ℕ
 code_over_255 = 21
+
+-- the paper's number of a refusal
+abbrev pub refusal_number : Refusal → ℕ
+refusal_number NoRoom = no_room
+refusal_number NoDigit = no_digit
+refusal_number BadBase = bad_base
+refusal_number TooBig = too_big
+refusal_number NotEnded = not_ended
+refusal_number OverLimit = over_limit
+refusal_number BadCode = bad_code
+refusal_number BadString = bad_string
+refusal_number BadReference = bad_reference
+refusal_number UnknownName = unknown_name
+refusal_number TooDeep = too_deep
+refusal_number AllowanceSpent = allowance_spent
+refusal_number BadTable = bad_table
+refusal_number UnknownCall = unknown_call
+refusal_number BadExpression = bad_expression
+refusal_number ZeroDivisor = zero_divisor
+refusal_number NotAnInteger = not_an_integer
+refusal_number OverLength = over_length
+refusal_number BadField = bad_field
+refusal_number BadIndex = bad_index
+refusal_number CodeOver255 = code_over_255
+
+-- all refusals in the order of their numbers, the first of which is 1
+abbrev pub refusals : List Refusal
+refusals =
+    NoRoom ∷ NoDigit ∷ BadBase ∷ TooBig ∷ NotEnded ∷ OverLimit ∷ BadCode ∷ BadString ∷ BadReference ∷ UnknownName ∷ TooDeep ∷ AllowanceSpent ∷ BadTable ∷ UnknownCall ∷ BadExpression ∷ ZeroDivisor ∷ NotAnInteger ∷ OverLength ∷ BadField ∷ BadIndex ∷ CodeOver255 ∷ []
+
+-- the refusal that has a number, from 1 to 21; 0 gives the first as 1 does, since 0 - 1 is 0, and a number above 21 the last one
+abbrev pub refusal_of : ℕ → Refusal
+refusal_of number = get_or refusals (number - 1) CodeOver255
+
+-- a fault as a refusal
+abbrev pub refusal_by : Fault → Refusal
+refusal_by Faults.NoDigit = NoDigit
+refusal_by Faults.BadBase = BadBase
+refusal_by Faults.TooBig = TooBig
+refusal_by Faults.BadCode = BadCode
+refusal_by Faults.BadString = BadString
+refusal_by Faults.BadReference = BadReference
+refusal_by Faults.UnknownName = UnknownName
+refusal_by Faults.TooDeep = TooDeep
+refusal_by Faults.BadExpression = BadExpression
+refusal_by Faults.ZeroDivisor = ZeroDivisor
+refusal_by Faults.NotAnInteger = NotAnInteger
+refusal_by Faults.CodeOver255 = CodeOver255
 
 -- in bytes
 abbrev pub longest : ℕ

@@ -9,8 +9,5 @@ const MOST: u32 = 1024;
 pub fn cap(allowance: u32) -> u32
     ensures { (result ≡ allowed allowance) × (result ≤ 1024) }
 {
-    if allowance < MOST {
-        return allowance;
-    }
-    MOST
+    allowance.min(MOST)
 }

@@ -18,42 +18,33 @@ pub fn among(low: u8, high: u8, c: u8) -> bool
 pub fn is_end(c: u8) -> bool
     ensures { result ≡ ends c }
 {
-    c == 0 || (c == 10 || c == 13)
+    matches!(c, 0 | b'\n' | b'\r')
 }
 
 // A byte that a name may have. The quote, "<" and ">" mean something in a text.
+#[tactic(auto, unfolding(crate::specs::Bytes::name_byte), using(std::proofs::lemmas::Bool::Decides::nat_tests))]
 pub fn is_name_byte(c: u8) -> bool
     ensures { result ≡ name_byte c }
 {
-    if c < 33 {
-        return false;
-    }
-    if 126 < c {
-        return false;
-    }
-    if c == b'"' {
-        return false;
-    }
-    if c == b'<' {
-        return false;
-    }
-    c != b'>'
+    matches!(c, b'!'..=b'~') && !matches!(c, b'"' | b'<' | b'>')
 }
 
 pub fn is_letter(c: u8) -> bool
     ensures { result ≡ letter c }
 {
-    among(b'A', b'Z', c) || among(b'a', b'z', c)
+    matches!(c, b'A'..=b'Z' | b'a'..=b'z')
 }
 
 // A byte that a word of an expression may go on with.
+#[tactic(auto, unfolding(crate::specs::Bytes::word_byte), using(std::proofs::lemmas::Bool::Decides::nat_tests))]
 pub fn is_word_byte(c: u8) -> bool
     ensures { result ≡ word_byte c }
 {
-    is_letter(c) || (among(b'0', b'9', c) || (c == b'_' || c == b'$'))
+    is_letter(c) || matches!(c, b'0'..=b'9' | b'_' | b'$')
 }
 
-// The kinds of bytes of which runs are passed over.
+// The kinds of bytes of which runs are passed over. An enum and no closure: the theorem `Determined` of `promises` has `skip` with a kind, and
+// `ByteKind::has`.
 #[derive(Clone, Copy)]
 pub enum ByteKind {
     Space,
@@ -73,17 +64,14 @@ impl ByteKind {
     }
 }
 
-// The first place from `start` on whose byte is not of a kind, or the slice's end. The end is tested for by itself, so that whoever reads
-// on from there need not test for it again.
+// The first place from `start` on whose byte is not of a kind: where there is none the slice's end, or a start that lies behind it.
 pub fn skip(kind: ByteKind, text: &[u8], start: usize) -> usize
     ensures { result ≡ start + run_of (of_kind kind) (drop start text.now) }
 {
-    let mut at = start;
-    while at < text.len() {
+    for at in start..text.len() {
         if !kind.has(text[at]) {
             return at;
         }
-        at += 1;
     }
-    at
+    start.max(text.len())
 }

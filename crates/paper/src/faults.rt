@@ -2,6 +2,8 @@
 ghost use Rattle.std.specs.Prelude.{◌≡◌};
 ghost use Rattle.paper.specs.Traces.{fault_number};
 
+use crate::refusals::Refusal;
+
 #[derive(Clone, Copy)]
 pub enum Fault {
     NoDigit,
@@ -19,22 +21,11 @@ pub enum Fault {
 }
 
 impl Fault {
+    // No code here calls it any more; the theorem `Determined` of `promises` has it (`fault_number`).
+    #[tactic(auto, using(crate::proofs::Refused::fault_refused))]
     pub fn number(self) -> u8
         ensures { result ≡ fault_number self }
     {
-        match self {
-            Fault::NoDigit => crate::NO_DIGIT,
-            Fault::BadBase => crate::BAD_BASE,
-            Fault::TooBig => crate::TOO_BIG,
-            Fault::BadCode => crate::BAD_CODE,
-            Fault::BadString => crate::BAD_STRING,
-            Fault::BadReference => crate::BAD_REFERENCE,
-            Fault::UnknownName => crate::UNKNOWN_NAME,
-            Fault::TooDeep => crate::TOO_DEEP,
-            Fault::BadExpression => crate::BAD_EXPRESSION,
-            Fault::ZeroDivisor => crate::ZERO_DIVISOR,
-            Fault::NotAnInteger => crate::NOT_AN_INTEGER,
-            Fault::CodeOver255 => crate::CODE_OVER_255,
-        }
+        Refusal::from(self).number()
     }
 }

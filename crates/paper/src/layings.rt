@@ -3,24 +3,29 @@ ghost use Rattle.std.specs.Prelude.{◌≡◌, cond, length, set};
 ghost use Rattle.paper.specs.Layings.{laying_of, converted_by};
 ghost use Rattle.paper.specs.inner.Claims.{claimed_in};
 
-use crate::{NO_ROOM, TextPlace, one_if};
+use crate::refusals::Refusal;
+use crate::{TextPlace, one_if};
 
-// What a conversion answers. `offset` is the number of characters, where the zero byte stands if there is one; `need` is the
-// room that the whole string takes; `free` is the room behind the characters.
-#[derive(Clone, Copy)]
-pub enum Converted {
-    Written {
-        offset: usize,
-        need: usize,
-        free: usize,
-    },
-    Refused {
-        number: u8,
-        at: TextPlace,
-        need: usize,
-        free: usize,
-    },
+// A string that is written: the number of its characters, where the zero byte stands if there is one; the room that the whole string takes;
+// and the room behind the characters.
+#[derive(Clone, Copy, PartialEq, Eq)]
+pub struct Written {
+    pub offset: usize,
+    pub need: usize,
+    pub free: usize,
 }
+
+// Why nothing is written, and the place of it in the text; the room that is enough, if that is what lacks; and the room that is free.
+#[derive(Clone, Copy, PartialEq, Eq)]
+pub struct NotWritten {
+    pub why: Refusal,
+    pub at: TextPlace,
+    pub need: usize,
+    pub free: usize,
+}
+
+// What a conversion answers.
+pub type Converted = Result<Written, NotWritten>;
 
 // Claims the room for a string of so many characters, which the caller then writes: the answer is the whole string's, and its zero byte
 // stands where it is to be, if there is one. Where there is no room, nothing changes. Both answers are made at one end: with a `return`
@@ -34,20 +39,20 @@ pub fn claim(characters: u32, terminated: bool, buf: &mut [u8]) -> Converted
     let need = offset + one_if(terminated);
     let room = buf.len();
     if room < need {
-        Converted::Refused {
-            number: NO_ROOM,
+        Err(NotWritten {
+            why: Refusal::NoRoom,
             at: TextPlace(0),
             need,
             free: room,
-        }
+        })
     } else {
         put_if(terminated, 0, offset, buf);
         let free = room - offset;
-        Converted::Written { offset, need, free }
+        Ok(Written { offset, need, free })
     }
 }
 
-// Writes one byte, if it is wanted and lies inside the buffer.
+// Writes one byte, if it is wanted and lies inside the buffer. The flag stays: `Determined` of `promises` has it (`put_if`).
 pub fn put_if(wanted: bool, byte: u8, at: usize, buf: &mut [u8])
     ensures { buf.new ≡ cond wanted (set buf.old at byte) buf.old }
 {

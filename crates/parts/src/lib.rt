@@ -1,105 +1,52 @@
-// Parts of an expression, read and evaluated in one pass: a value; a refusal of the evaluation, which waits until the syntax is known to
-// be good; or a refusal of the syntax.
+// Parts of an expression, read and evaluated in one pass. A refusal of the syntax ends the reading. One of the evaluation lies in its part,
+// where it waits until the syntax is known to be good.
 #![tactic(auto)]
 
-ghost use Rattle.std.specs.Prelude.{◌≡◌, ◌&&◌, eqb};
-ghost use Rattle.paper.specs.declared.faults.Fault.TheVariants as Fault;
-ghost use Rattle.arithmetic.specs.Operators.{divides};
-ghost use Rattle.parts.specs.inner.Steps.{account_of, moved_to, covered_part, applied_part, joined_part};
-ghost use Rattle.parts.specs.declared.Part.TheVariants as Part;
+ghost use Rattle.std.specs.Prelude.{◌≡◌};
+ghost use Rattle.parts.specs.inner.Steps.{refused_at, account_of, covered_part, applied_outcome, joined_outcome, joined_part};
 
 pub mod behind;
 
 use arithmetic::operators::Operator;
 use arithmetic::values;
-use paper::ZERO_DIVISOR;
-use paper::faults::Fault;
+use behind::Binding;
+use paper::TextPlace;
+use paper::refusals::{Refusal, Refused};
 
 // How the evaluation stands: the look-ups that are left, or the first refusal that it met.
+pub type Account = Result<u32, Refused>;
+
+// A 32-bit pattern, and the look-ups left behind it.
 #[derive(Clone, Copy)]
-pub enum Account {
-    Open(u32),
-    Refused { number: u8, place: usize },
+pub struct Valued {
+    pub pattern: u32,
+    pub left: u32,
 }
 
+pub type Outcome = Result<Valued, Refused>;
+
+// What a part was evaluated to, and the first place behind it.
 #[derive(Clone, Copy)]
-pub enum Part {
-    // A 32-bit pattern, the look-ups left, and the first place behind the part.
-    Value {
-        value: u32,
-        left: u32,
-        next: usize,
-    },
-    // The evaluation is refused; the part goes up to `next`.
+pub struct Part {
+    pub outcome: Outcome,
+    pub next: usize,
+}
+
+pub fn refused(why: Refusal, place: usize) -> Refused
+    ensures { result ≡ refused_at why place }
+{
     Refused {
-        number: u8,
-        place: usize,
-        next: usize,
-    },
-    // The syntax is refused.
-    Faulty {
-        fault: Fault,
-        place: usize,
-    },
-}
-
-pub fn too_deep(place: usize) -> Part
-    ensures { result ≡ Part.Faulty Fault.TooDeep place }
-{
-    Part::Faulty {
-        fault: Fault::TooDeep,
-        place,
+        why,
+        at: TextPlace(place),
     }
 }
 
-pub fn bad(place: usize) -> Part
-    ensures { result ≡ Part.Faulty Fault.BadExpression place }
-{
-    Part::Faulty {
-        fault: Fault::BadExpression,
-        place,
-    }
-}
-
-// How the evaluation stands behind a part.
-pub fn account_of(part: Part) -> Account
-    ensures { result ≡ account_of part }
-{
-    match part {
-        Part::Value {
-            value: _,
-            left,
-            next: _,
-        } => Account::Open(left),
-        Part::Refused {
-            number,
-            place,
-            next: _,
-        } => Account::Refused { number, place },
-        Part::Faulty { fault: _, place: _ } => Account::Open(0),
-    }
-}
-
-// The same part, up to another place.
-pub fn moved_to(part: Part, next: usize) -> Part
-    ensures { result ≡ moved_to next part }
-{
-    match part {
-        Part::Value {
-            value,
-            left,
-            next: _,
-        } => Part::Value { value, left, next },
-        Part::Refused {
-            number,
-            place,
-            next: _,
-        } => Part::Refused {
-            number,
-            place,
-            next,
-        },
-        Part::Faulty { fault, place } => Part::Faulty { fault, place },
+impl Part {
+    // How the evaluation stands behind a part.
+    pub fn account(self) -> Account
+        ensures { result ≡ account_of self.outcome }
+    {
+        self.outcome.map(|valued| valued.left)
     }
 }
 
@@ -107,95 +54,38 @@ pub fn moved_to(part: Part, next: usize) -> Part
 pub fn covered(operator: Operator, part: Part) -> Part
     ensures { result ≡ covered_part operator part }
 {
-    match part {
-        Part::Value { value, left, next } => Part::Value {
-            value: values::unary(operator, value),
-            left,
-            next,
-        },
-        Part::Refused {
-            number,
-            place,
-            next,
-        } => Part::Refused {
-            number,
-            place,
-            next,
-        },
-        Part::Faulty { fault, place } => Part::Faulty { fault, place },
-    }
+    let outcome = part.outcome.map(|valued| Valued {
+        pattern: values::unary(operator, valued.pattern),
+        left: valued.left,
+    });
+    Part { outcome, ..part }
 }
 
-fn divides_by_zero(operator: Operator, rhs: u32) -> bool
-    ensures { result ≡ (divides operator && eqb rhs 0) }
+#[tactic(auto, unfolding(crate::specs::inner::Steps::applied_outcome))]
+fn applied(binding: Binding, lhs: Valued, rhs: Valued) -> Outcome
+    ensures { result ≡ applied_outcome binding.operator binding.place lhs rhs }
 {
-    operator.divides() && rhs == 0
+    if binding.operator.divides() && rhs.pattern == 0 {
+        return Err(refused(Refusal::ZeroDivisor, binding.place));
+    }
+    Ok(Valued {
+        pattern: values::binary(binding.operator, lhs.pattern, rhs.pattern),
+        left: rhs.left,
+    })
 }
 
-fn applied(operator: Operator, place: usize, lhs: u32, rhs: u32, left: u32, next: usize) -> Part
-    ensures { result ≡ applied_part operator place lhs rhs left next }
+fn joined_outcome(binding: Binding, lhs: Outcome, rhs: Outcome) -> Outcome
+    ensures { result ≡ joined_outcome binding.operator binding.place lhs rhs }
 {
-    if divides_by_zero(operator, rhs) {
-        return Part::Refused {
-            number: ZERO_DIVISOR,
-            place,
-            next,
-        };
-    }
-    Part::Value {
-        value: values::binary(operator, lhs, rhs),
-        left,
-        next,
-    }
+    applied(binding, lhs?, rhs?)
 }
 
-// Two parts and the operator between them, at its place; the right one was evaluated behind the left one.
-pub fn joined(operator: Operator, place: usize, lhs: Part, rhs: Part) -> Part
-    ensures { result ≡ joined_part operator place lhs rhs }
+// Two parts and the operator between them; the right one was evaluated behind the left one.
+pub fn joined(binding: Binding, lhs: Part, rhs: Part) -> Part
+    ensures { result ≡ joined_part binding.operator binding.place lhs rhs }
 {
-    match rhs {
-        Part::Faulty {
-            fault,
-            place: first,
-        } => Part::Faulty {
-            fault,
-            place: first,
-        },
-        Part::Refused {
-            number,
-            place: first,
-            next,
-        } => Part::Refused {
-            number,
-            place: first,
-            next,
-        },
-        Part::Value {
-            value: r,
-            left,
-            next,
-        } => match lhs {
-            Part::Value {
-                value: l,
-                left: _,
-                next: _,
-            } => applied(operator, place, l, r, left, next),
-            Part::Refused {
-                number,
-                place: first,
-                next: _,
-            } => Part::Refused {
-                number,
-                place: first,
-                next,
-            },
-            Part::Faulty {
-                fault,
-                place: first,
-            } => Part::Faulty {
-                fault,
-                place: first,
-            },
-        },
+    Part {
+        outcome: joined_outcome(binding, lhs.outcome, rhs.outcome),
+        next: rhs.next,
     }
 }

@@ -9,9 +9,12 @@ use lib.ListN.{length, take, drop, get_or, length-append, get_or-eq_default}
 use lib.Seq.{take-append_seam, get_or-append_seam}
 use Rattle.paper.specs.Answers.{in_text, refusal}
 use Rattle.paper.specs.Bytes.{run_of, name_byte}
-use Rattle.paper.specs.Refusals.{too_big, code_over_255, greatest_code}
+use Rattle.paper.specs.Refusals.{too_big, code_over_255, greatest_code, refusal_number, refusal_of}
 use Rattle.paper.specs.Traces.{Trace, ended, faults, gives, asks, spends, enters, bytes, answer, allowed}
 use Rattle.paper.specs.declared.faults.Fault.TheVariants.{CodeOver255}
+use Rattle.paper.specs.declared.refusals.Refusal.{Refusal}
+use Rattle.paper.specs.declared.refusals.Refusal.TheVariants as Refusals
+use Rattle.paper.proofs.Refused.{refused_back}
 use Rattle.paper.proofs.Choice.{below, not_below, other}
 use Rattle.reader.specs.Reading.{reading, refused, valued, no_limit}
 use Rattle.variables.specs.Names.{Meaning, names_of}
@@ -22,8 +25,7 @@ use Rattle.symbols.specs.Symbols.{symbol_at, active, referred, first_at, mode_of
 use Rattle.symbols.specs.declared.forms.Mode.TheVariants.{Plain}
 use Rattle.symbols.specs.declared.forms.Symbol.TheVariants.{End, Reference}
 use Rattle.gs.specs.Readings.{Expand, name_gives, content_gives, symbol_gives, symbols_from, whole_text, expands}
-use Rattle.gs.specs.Translations.{reading_of, translated_answer}
-use Rattle.gs.specs.declared.Translated.{Translated}
+use Rattle.gs.specs.Translations.{Translation, reading_of, translated_answer}
 use Rattle.gs.proofs.Answers.{good_answer, written_buffer, kept_buffer}
 use Rattle.promises.specs.Allowed.{Translates}
 use Rattle.promises.specs.Codes.{Met, Unread, Content, referring, Alone, InAMacro}
@@ -43,13 +45,17 @@ module _ (names : List ℕ → Meaning) (expand : Expand) (content : List ℕ) (
   unfolding content_gives
   content_over h = ap (λ r. content_gives names expand r content place rest) read ∙ sym (below greatest_code number _ _ h refl)
 
+-- no other refusal has the number 4
+too_big_alone : (kept : Refusal) → refusal_number kept ≡ too_big → kept ≡ Refusals.TooBig
+too_big_alone kept e = sym (refused_back kept) ∙ ap refusal_of e
+
 -- and one that the reader refuses otherwise than by 4
-content_named : (names : List ℕ → Meaning) (expand : Expand) (content : List ℕ) (place : ℕ) (rest : Trace) (kept at : ℕ)
-    → reading content true no_limit ≡ refused kept at → (kept ≡ too_big → ⊥)
+content_named : (names : List ℕ → Meaning) (expand : Expand) (content : List ℕ) (place : ℕ) (rest : Trace) (kept : Refusal) (at : ℕ)
+    → reading content true no_limit ≡ refused kept at → (kept ≡ Refusals.TooBig → ⊥)
     → content_gives names expand (reading content true no_limit) content place rest ≡ asks content (name_gives expand (names content) content place rest)
 unfolding content_gives
 content_named names expand content place rest kept at e n =
-    ap (λ r. content_gives names expand r content place rest) e ∙ sym (other kept too_big _ _ n refl)
+    ap (λ r. content_gives names expand r content place rest) e ∙ sym (other (refusal_number kept) too_big _ _ (λ e. n (too_big_alone kept e)) refl)
 
 pub number_met : Met
 unfolding symbol_gives symbols_from
@@ -119,7 +125,7 @@ module _ (content : List ℕ) (flags : ℕ) (c : Content content) where
       ∙ ap (content_gives names expand (reading content true no_limit) content 0) behind
 
 -- an answer by a reading that is known
-module _ (text farm house : List ℕ) (given : Given) (flags allowance : ℕ) (out after : List ℕ) (r : Translated)
+module _ (text farm house : List ℕ) (given : Given) (flags allowance : ℕ) (out after : List ℕ) (r : Translation)
     (judged : judgement text farm house ≡ good) (fit : fits given house ≡ true) (c : Translates text farm house given flags allowance out r after) where
   answered : translated_answer r ≡ answer (reading_of text farm house flags) (allowed allowance) (length out)
   answered = ap translated_answer c.answer ∙ good_answer text farm house given flags allowance (length out) judged fit

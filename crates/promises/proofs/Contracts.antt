@@ -24,16 +24,16 @@ pub build_index : BuildIndex
 build_index κs table out after r learnt = record { answer = learnt.0; buffer = learnt.1 }
 
 pub look_up : LookUp
-look_up κs farm house index indexed name r learnt = record { answer = learnt }
+look_up κs tables index name r learnt = record { answer = learnt }
 
 pub look_up_value : LookUpValue
-look_up_value κs farm house index indexed name r learnt = record { answer = learnt }
+look_up_value κs tables index name r learnt = record { answer = learnt }
 
 pub translate : Translate
-translate κs text farm house index indexed flags allowance out after r learnt = record { answer = learnt.0; buffer = learnt.1 }
+translate κs text tables index flags allowance out after r learnt = record { answer = learnt.0; buffer = learnt.1 }
 
 pub evaluate : Evaluate
-evaluate κs text farm house allowance r learnt = record { answer = learnt }
+evaluate κs text tables allowance r learnt = record { answer = learnt }
 
 pub nos_convert : NosConvert
 nos_convert κs call value buf after r learnt =
@@ -83,10 +83,10 @@ any =
       read_unsigned = λ κs text whole limit. tt;
       check_table = λ κs table. tt;
       build_index = λ κs table out. tt;
-      look_up = λ κs farm house index indexed name. tt;
-      look_up_value = λ κs farm house index indexed name. tt;
-      translate = λ κs text farm house index indexed flags allowance out. tt;
-      evaluate = λ κs text farm house allowance. tt;
+      look_up = λ κs tables index name. tt;
+      look_up_value = λ κs tables index name. tt;
+      translate = λ κs text tables index flags allowance out. tt;
+      evaluate = λ κs text tables allowance. tt;
       nos_convert = λ κs call value buf. tt;
       nos_convert_date = λ κs time format buf. tt;
       nos_read_unsigned = λ κs text whole limit. tt;

@@ -7,9 +7,8 @@ use Prim.Native.Nat.{ℕ, ◌+◌, ◌≤◌, ◌<◌}
 use native.Mathlib.Omega.{arith}
 use lib.ListN.{length, drop}
 use Rattle.paper.specs.Answers.{in_text, Answer, refusal, GrownWhole}
-use Rattle.paper.specs.Layings.{converted_answer}
+use Rattle.paper.specs.Layings.{Converted, converted_answer}
 use Rattle.paper.specs.Refusals.{no_room, over_length, bad_field}
-use Rattle.paper.specs.declared.layings.Converted.{Converted}
 use Rattle.paper.proofs.Choice.{clash}
 use Rattle.paper.proofs.Laid.{no_room_for, laid, grows_by}
 use Rattle.calendar.specs.Moments.{day_of, moment_at}

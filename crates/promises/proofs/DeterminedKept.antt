@@ -5,6 +5,7 @@ use mathlib.Core.List.{[], ◌∷◌, ◌++◌}
 use Prim.Native.Nat.{◌+◌, ◌*◌, ◌/◌, ◌%◌, ◌^◌}
 use lib.Dec.{eqb}
 use lib.ListN.{length, take, drop, get_or, set}
+use Rattle.std.specs.Prelude.{List, ℕ, Option, Some, None}
 use Rattle.paper.specs.Bytes as Bytes
 use Rattle.paper.specs.Traces.{allowed, fault_number}
 use Rattle.paper.specs.Layings.{laying_of, converted_by}
@@ -39,13 +40,13 @@ use Rattle.runs.specs.Plain.{plain_byte, also_ends}
 use Rattle.runs.specs.Output.{laid_at}
 use Rattle.references.specs.References.{referred_by}
 use Rattle.tokens.specs.Tokens.{Lexeme, token_at}
-use Rattle.parts.specs.Links.{Link, binds, none}
+use Rattle.parts.specs.Links.{Link, binds, none, link_at}
 use Rattle.parts.specs.inner.Steps as Parts
 use Rattle.leaves.specs.Leaves.{number_part, named_part}
-use Rattle.parts.specs.declared.behind.Behind.{Behind}
-use Rattle.parts.specs.declared.behind.Behind.TheVariants.{Binds, Other}
-use Rattle.parts.specs.declared.Part.TheVariants as Part
-use Rattle.paper.specs.declared.faults.Fault.TheVariants as Faults
+use Rattle.parts.specs.declared.behind.Binding.{Binding}
+use Rattle.arithmetic.specs.declared.operators.Level.{Level}
+use Rattle.arithmetic.specs.declared.operators.Level.TheVariants as Levels
+use Rattle.paper.specs.Refusals.{refusal_number}
 use Rattle.gs.specs.Translations.{translated, out_after, translated_answer}
 use Rattle.arithmetic.specs.Operators as Operators
 use Rattle.arithmetic.specs.Values.{unary_value, binary_value}
@@ -69,30 +70,46 @@ family_in Ten form =
     (cond form.signed (cond form.terminated (Families.Signed form.width) Families.Bare) (Families.Unsigned form.width))
 family_in Sixteen form = Families.Hex form.width
 
-family_by : Described → Family
-family_by unknown = Families.NoCall
-family_by (known form) = family_in form.base form
+family_by : Described → Option Family
+family_by unknown = None
+family_by (known form) = Some (family_in form.base form)
 
-family_back : (r : Family) → r ≡ family_by (form_of r)
+family_back : (r : Option Family) → r ≡ family_by (form_of r)
 unfolding family_in family_by
-family_back Families.NoCall = refl
-family_back (Families.Hex width) = refl
-family_back (Families.Binary width) = refl
-family_back (Families.Unsigned width) = refl
-family_back (Families.Signed width) = refl
-family_back (Families.SpacedUnsigned width) = refl
-family_back (Families.SpacedSigned width) = refl
-family_back Families.Bare = refl
+family_back None = refl
+family_back (Some (Families.Hex width)) = refl
+family_back (Some (Families.Binary width)) = refl
+family_back (Some (Families.Unsigned width)) = refl
+family_back (Some (Families.Signed width)) = refl
+family_back (Some (Families.SpacedUnsigned width)) = refl
+family_back (Some (Families.SpacedSigned width)) = refl
+family_back (Some Families.Bare) = refl
 
 -- an operator behind an operand, as the code has it, by the definitions' own type
-behind_by : Link → Behind
-behind_by (binds operator place next) = Binds operator place next
-behind_by none = Other
+behind_by : Link → Option Binding
+behind_by (binds operator place next) = Some (record { operator = operator; place = place; next = next })
+behind_by none = None
 
-behind_back : (r : Behind) → r ≡ behind_by (Parts.link_of r)
+behind_back : (r : Option Binding) → r ≡ behind_by (Parts.link_of r)
 unfolding behind_by
-behind_back (Binds operator place next) = refl
-behind_back Other = refl
+behind_back (Some b) = refl
+behind_back None = refl
+
+-- a level as the code has it, by its number
+levels : List (Option Level)
+levels = None ∷ Some Levels.Term ∷ Some Levels.Sum ∷ Some Levels.Relation ∷ Some Levels.Conjunction ∷ Some Levels.Disjunction ∷ []
+
+level_by : ℕ → Option Level
+level_by n = get_or levels n None
+
+level_back : (r : Option Level) → r ≡ level_by (Operators.number_of r)
+unfolding level_by levels
+level_back None = refl
+level_back (Some Levels.Term) = refl
+level_back (Some Levels.Sum) = refl
+level_back (Some Levels.Relation) = refl
+level_back (Some Levels.Conjunction) = refl
+level_back (Some Levels.Disjunction) = refl
 
 pub determined : Determined
 determined =
@@ -106,6 +123,7 @@ determined =
       is_word_byte = function_of (λ (c, _). Bytes.word_byte c) (λ κs a r after c. c);
       kind_has = function_of (λ (kind, (c, _)). Bytes.of_kind kind c) (λ κs a r after c. c);
       skip = function_of (λ (kind, (text, (start, _))). start + Bytes.run_of (Bytes.of_kind kind) (drop start text)) (λ κs a r after c. c);
+      refusal_number = function_of (λ (refusal, _). refusal_number refusal) (λ κs a r after c. c);
       fault_number = function_of (λ (fault, _). fault_number fault) (λ κs a r after c. c);
       one_if = function_of (λ (present, _). cond present 1 0) (λ κs a r after c. c.0);
       put_if = function_of (λ (wanted, (byte, (at, (buf, _)))). (tt, cond wanted (set buf at byte) buf)) (λ κs a r after c. ap (λ out. (tt, out)) c);
@@ -142,12 +160,12 @@ determined =
       search_index = function_of (λ (table, (index, (name, _))). match_in table (searched table index name)) (λ κs a r after c. c);
       judge =
           function_of
-          (λ (farm, (house, (index, (indexed, (keys, _))))). let given = given_by indexed index in (
+          (λ (farm, (house, (given, (keys, _)))). (
             Through.judged_by (Judgements.judged farm house) (fits given house) (Through.lines_of (Judgements.judged farm (Through.to_lay house given))),
             laid_over (judged_lines farm (Through.to_lay house given)) keys,
           ))
           (λ κs a r after c. ap₂ (λ r keys. (r, keys)) c.0 c.1);
-      bytes_given = function_of (λ (index, (indexed, _)). Through.bytes_given (given_by indexed index)) (λ κs a r after c. c);
+      bytes_given = function_of (λ (given, _). Through.bytes_given given) (λ κs a r after c. c);
       find_through =
           function_of (λ (farm, (house, (keys, (index, (name, _))))). match_as farm house (Through.sought_through farm house keys index name)) (λ κs a r after c. c);
       symbol_at = function_of (λ (text, (flags, (mode, (at, _)))). symbol_at text flags.0 mode at) (λ κs a r after c. c);
@@ -163,7 +181,7 @@ determined =
       put = function_of (λ (byte, (to, (out, _))). (tt, laid_at out to (byte ∷ []))) (λ κs a r after c. ap (λ out. (tt, out)) c);
       copy = function_of (λ (given, (to, (out, _))). (tt, laid_at out to given)) (λ κs a r after c. ap (λ out. (tt, out)) c);
       resolve = function_of (λ (content, (farm, (house, (keys, (index, _))))). referred_by farm house keys index content) (λ κs a r after c. c);
-      level = function_of (λ (operator, _). Operators.level_of operator) (λ κs a r after c. c);
+      level = function_of (λ (operator, _). level_by (Operators.level_of operator)) (λ κs a r after c. level_back r ∙ ap level_by c);
       stands_alone = function_of (λ (operator, _). Operators.stands_alone operator) (λ κs a r after c. c);
       divides = function_of (λ (operator, _). Operators.divides operator) (λ κs a r after c. c);
       unary = function_of (λ (operator, (v, _)). unary_value operator v) (λ κs a r after c. c);
@@ -172,14 +190,13 @@ determined =
           function_of (λ (text, (at, _)). let l = token_at text at in record { token = l.token; place = l.place; next = l.next })
           (λ κs a r after c. ap (λ (l : Lexeme). record { token = l.token; place = l.place; next = l.next }) c);
       operator_behind =
-          function_of (λ (text, (level, (part, _))). behind_by (Parts.link_behind text level part)) (λ κs a r after c. behind_back r ∙ ap behind_by c);
-      up_to = function_of (λ (text, (part, (wanted, _))). Parts.part_up_to text wanted part) (λ κs a r after c. c);
-      too_deep_part = function_of (λ (place, _). Part.Faulty Faults.TooDeep place) (λ κs a r after c. c);
-      bad_part = function_of (λ (place, _). Part.Faulty Faults.BadExpression place) (λ κs a r after c. c);
-      account_of = function_of (λ (part, _). Parts.account_of part) (λ κs a r after c. c);
-      moved_to = function_of (λ (part, (next, _)). Parts.moved_to next part) (λ κs a r after c. c);
+          function_of (λ (text, (level, (at, _))). behind_by (link_at text (Operators.level_number level) at))
+          (λ κs a r after c. behind_back r ∙ ap behind_by c);
+      end_behind = function_of (λ (text, (wanted, (at, _))). Parts.end_behind text wanted at) (λ κs a r after c. c);
+      refused_part = function_of (λ (why, (place, _)). Parts.refused_at why place) (λ κs a r after c. c);
+      account_of = function_of (λ (part, _). Parts.account_of part.outcome) (λ κs a r after c. c);
       covered_part = function_of (λ (operator, (part, _)). Parts.covered_part operator part) (λ κs a r after c. c);
-      joined_part = function_of (λ (operator, (place, (lhs, (rhs, _)))). Parts.joined_part operator place lhs rhs) (λ κs a r after c. c);
+      joined_part = function_of (λ (b, (lhs, (rhs, _))). Parts.joined_part b.operator b.place lhs rhs) (λ κs a r after c. c);
       leaf_number = function_of (λ (value, (next, (account, _))). number_part value next account) (λ κs a r after c. c);
       leaf_named =
           function_of (λ (name, (farm, (house, (keys, (place, (next, (account, _))))))). named_part farm house keys name place next account)

@@ -18,8 +18,8 @@ use Rattle.records.specs.Records.{Entry, small, comes_before}
 use Rattle.records.proofs.Equal.{reflexive, same_bytes_lem, bytes_same}
 use Rattle.records.proofs.Order as Order
 use Rattle.variables.specs.Tables.{checked, check_number, check_place, check_count, records_of}
-use Rattle.variables.specs.declared.Checked.{Checked}
-use Rattle.variables.specs.declared.Checked.TheVariants.{Good, BadTable}
+use Rattle.std.specs.Prelude.{Result, Ok, Err}
+use Rattle.paper.specs.declared.refusals.BadTable.{BadTable}
 use Rattle.variables.proofs.Bounds.{checked_bounded, good_table}
 use Rattle.variables.proofs.Good.{laid}
 use Rattle.variables.proofs.Unique.{apart}
@@ -27,7 +27,8 @@ use Rattle.indexes.specs.Indexes.{given_index, index_of, in_order, inserted_all,
 use Rattle.indexes.specs.Buildings.{built_over, built, laid_by, index_after, built_answer, build_numbers}
 use Rattle.indexes.specs.inner.Halving.{place_in, nearest}
 use Rattle.indexes.specs.declared.building.Built.{Built}
-use Rattle.indexes.specs.declared.building.Built.TheVariants.{Written, NoRoom}
+use Rattle.indexes.specs.declared.building.NotBuilt.{NotBuilt}
+use Rattle.indexes.specs.declared.building.NotBuilt.TheVariants.{NoRoom}
 use Rattle.indexes.proofs.Entries.{place_in_lem}
 use Rattle.indexes.proofs.Searching.{bytes_long, search_same, in_order_listed}
 use Rattle.indexes.proofs.Sorting as Sorting
@@ -112,52 +113,52 @@ pub one_answer : OneAnswer
 one_answer table out after after' r r' c c' = (c.answer ∙ sym c'.answer, c.buffer ∙ sym c'.buffer)
 
 -- how building can come out
-data Outcome (table out : List ℕ) : Built → List ℕ → Type 0 where
-  not_good : (d : Checked) → checked table ≡ d → (check_number d ≡ 0 → ⊥) → Outcome table out (built_over d (length out)) out
-  lacks : (n : ℕ) → checked table ≡ Good n → length out < 2 * n → Outcome table out (NoRoom (2 * n) (length out)) out
-  lays : (n : ℕ) → checked table ≡ Good n → 2 * n ≤ length out → Outcome table out (Written (2 * n) (length out - 2 * n)) (index_of table ++ drop (2 * n) out)
+data Outcome (table out : List ℕ) : Result Built NotBuilt → List ℕ → Type 0 where
+  not_good : (d : Result ℕ BadTable) → checked table ≡ d → (check_number d ≡ 0 → ⊥) → Outcome table out (built_over d (length out)) out
+  lacks : (n : ℕ) → checked table ≡ Ok n → length out < 2 * n → Outcome table out (Err (NoRoom (2 * n) (length out))) out
+  lays : (n : ℕ) → checked table ≡ Ok n → 2 * n ≤ length out → Outcome table out (Ok (record { need = 2 * n; free = length out - 2 * n })) (index_of table ++ drop (2 * n) out)
 
 module _ (table out : List ℕ) where
-  of_check : (d : Checked) → checked table ≡ d → Outcome table out (built_over d (length out)) (laid_by (built_over d (length out)) (index_of table) out)
-  of_check (BadTable number at) e =
-      not_good (BadTable number at) e (λ z. omega (arith, (checked_bounded table).refused number at e))
-  of_check (Good n) e = go (dec_lt (length out) (2 * n)) where
-    go : Dec (length out < 2 * n) → Outcome table out (built_over (Good n) (length out)) (laid_by (built_over (Good n) (length out)) (index_of table) out)
+  of_check : (d : Result ℕ BadTable) → checked table ≡ d → Outcome table out (built_over d (length out)) (laid_by (built_over d (length out)) (index_of table) out)
+  of_check (Err b) e =
+      not_good (Err b) e (λ z. omega (arith, (checked_bounded table).refused b e))
+  of_check (Ok n) e = go (dec_lt (length out) (2 * n)) where
+    go : Dec (length out < 2 * n) → Outcome table out (built_over (Ok n) (length out)) (laid_by (built_over (Ok n) (length out)) (index_of table) out)
     go (yes h) = rw (lt-ltb (length out) (2 * n) h) (lacks n e h)
     go (no h) = rw (le-ltb (length out) (2 * n) (omega arith)) (lays n e (omega arith))
 
-  outcome : {r : Built} {after : List ℕ} → Builds table out r after → Outcome table out r after
+  outcome : {r : Result Built NotBuilt} {after : List ℕ} → Builds table out r after → Outcome table out r after
   unfolding built index_after
   outcome c = rw (c.answer, c.buffer) (of_check (checked table) refl)
 
 pub accepts : Accepts
 accepts table out after r c = go (outcome table out c)
   where
-    go : {r : Built} {after : List ℕ} → Outcome table out r after → ((built_answer r).number ≡ 0) ↔ (is_built r ≡ true)
-    go (not_good (Good n) e z) = absurd (z refl)
-    go (not_good (BadTable number at) e z) = (λ q. absurd (z q), λ q. absurd (false≢true q))
+    go : {r : Result Built NotBuilt} {after : List ℕ} → Outcome table out r after → ((built_answer r).number ≡ 0) ↔ (is_built r ≡ true)
+    go (not_good (Ok n) e z) = absurd (z refl)
+    go (not_good (Err b) e z) = (λ q. absurd (z q), λ q. absurd (false≢true q))
     go (lacks n e h) = (λ q. absurd (omega arith), λ q. absurd (false≢true q))
     go (lays n e h) = (λ _. refl, λ _. refl)
 
 pub refusals : Refusals
 refusals table out after r c = go (outcome table out c)
   where
-    go : {r : Built} {after : List ℕ} → Outcome table out r after → Memᴰ (built_answer r).number build_numbers
-    go (not_good (Good n) e z) = absurd (z refl)
-    go (not_good (BadTable number at) e z) = Memᴰ.append_left (no_room ∷ []) (Memᴰ.cast (ap check_number (sym e)) (checked_bounded table).listed)
+    go : {r : Result Built NotBuilt} {after : List ℕ} → Outcome table out r after → Memᴰ (built_answer r).number build_numbers
+    go (not_good (Ok n) e z) = absurd (z refl)
+    go (not_good (Err b) e z) = Memᴰ.append_left (no_room ∷ []) (Memᴰ.cast (ap check_number (sym e)) (checked_bounded table).listed)
     go (lacks n e h) = tail (tail (tail (head refl)))
     go (lays n e h) = head refl
 
 -- an index is as long as its need
-index_long : (table : List ℕ) {n : ℕ} → checked table ≡ Good n → length (index_of table) ≡ 2 * n
+index_long : (table : List ℕ) {n : ℕ} → checked table ≡ Ok n → length (index_of table) ≡ 2 * n
 index_long table e = omega (arith, bytes_long (inserted_all (records_of table) []), all_long (records_of table) [], (laid table e).counted)
 
 pub exact : Exact
 exact table out after r c = go (outcome table out c)
   where
-    go : {r : Built} {after : List ℕ} → Outcome table out r after → Exactly table out after (built_answer r)
-    go (not_good (Good n) e z) = absurd (z refl)
-    go (not_good (BadTable number at) e z) =
+    go : {r : Result Built NotBuilt} {after : List ℕ} → Outcome table out r after → Exactly table out after (built_answer r)
+    go (not_good (Ok n) e z) = absurd (z refl)
+    go (not_good (Err b) e z) =
         record {
           refused = λ _. (ap (λ d. refusal (check_number d) in_house (check_place d) (length out)) (sym e), refl);
           lacking = λ q h. absurd (z (sym (ap check_number e) ∙ q));
@@ -183,12 +184,12 @@ exact table out after r c = go (outcome table out c)
 not_lacking : (table : List ℕ) → check_number (checked table) ≡ no_room → ⊥
 not_lacking table = go (checked table) refl
   where
-    go : (d : Checked) → checked table ≡ d → check_number d ≡ no_room → ⊥
-    go (Good n) e z = omega arith
-    go (BadTable number at) e z = omega (arith, z, (checked_bounded table).refused number at e)
+    go : (d : Result ℕ BadTable) → checked table ≡ d → check_number d ≡ no_room → ⊥
+    go (Ok n) e z = omega arith
+    go (Err b) e z = omega (arith, z, (checked_bounded table).refused b e)
 
 -- the three ways of an answer, by the check and the room
-module _ (table out after : List ℕ) (r : Built) (c : Builds table out r after) where
+module _ (table out after : List ℕ) (r : Result Built NotBuilt) (c : Builds table out r after) where
   abbrev x : Exactly table out after (built_answer r)
   x = exact table out after r c
 

@@ -5,13 +5,13 @@ use mathlib.Core.List.{List, ◌++◌}
 use mathlib.Core.Logic.{◌↔◌}
 use Prim.Native.Nat.{ℕ, ◌+◌, ◌≤◌}
 use native.Mathlib.Omega.{arith}
-use borrow.Author.Tests.{eqb-false}
 use lib.Dec.{eqb}
 use lib.ListN.{length, drop}
 use Rattle.paper.specs.Answers.{in_text, Answer, refusal, GrownWhole}
-use Rattle.paper.specs.Layings.{terminator, room_for, converted_by, converted_answer}
-use Rattle.paper.specs.declared.layings.Converted.{Converted}
+use Rattle.paper.specs.Layings.{terminator, room_for, Converted, converted_by, converted_answer}
+use Rattle.paper.specs.Refusals.{refusal_of}
 use Rattle.paper.proofs.Choice.{clash, either}
+use Rattle.paper.proofs.Refused.{refused_above}
 use Rattle.paper.proofs.Laid.{Outcome, no_room_for, laid}
 use Rattle.promises.specs.Accepted.{is_converted}
 
@@ -20,7 +20,7 @@ pub accepts_by : (a : Answer) (r : Converted) → r ≡ converted_by a → ((con
 accepts_by a r e =
     subst (λ r. ((converted_answer r).number ≡ 0) ↔ (is_converted r ≡ true)) (sym e)
     (either (λ r. ((converted_answer r).number ≡ 0) ↔ (is_converted r ≡ true)) (eqb a.number 0)
-    (λ _. (λ _. refl, λ _. refl)) (λ e. (λ z. absurd (eqb-false a.number 0 e z), λ z. clash (cc))))
+    (λ _. (λ _. refl, λ _. refl)) (λ _. (λ z. absurd (refused_above (refusal_of a.number) z), λ z. clash (cc))))
 
 module _ (string : List ℕ) (terminated : Bool) (buf : List ℕ) where
   -- an accepted string's offset, and what it leaves

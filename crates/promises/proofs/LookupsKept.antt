@@ -8,10 +8,12 @@ use Prim.Native.Nat.{ℕ, ◌+◌, ◌≤◌, ◌<◌}
 use native.Mathlib.Omega.{arith}
 use lib.ListN.{length, take, drop}
 use Rattle.paper.specs.Answers.{in_text, in_farm, in_index, counted_in}
-use Rattle.paper.specs.Refusals.{unknown_name, allowance_spent, bad_index}
+use Rattle.paper.specs.Refusals.{refusal_number, unknown_name, allowance_spent, bad_index}
 use Rattle.paper.specs.declared.Holder.{Holder}
 use Rattle.paper.specs.declared.Holder.TheVariants.{Farm, House}
-use Rattle.paper.specs.declared.RecordPlace.{RecordPlace}
+use Rattle.std.specs.Prelude.{Some, None, Result, Ok, Err}
+use Rattle.paper.specs.declared.refusals.BadTable.{BadTable}
+use Rattle.paper.specs.declared.refusals.BadTableOf.{BadTableOf}
 use Rattle.paper.proofs.Choice.{clash}
 use Rattle.records.specs.Records.{Entry, same_name}
 use Rattle.records.specs.Kinds.{kind_of, kind_number}
@@ -21,13 +23,8 @@ use Rattle.variables.specs.Tables.{present, checked, records_of, sought_in, chec
 use Rattle.variables.specs.Holdings.{held_by, Holding, nowhere, held, sought_in_both}
 use Rattle.indexes.specs.Indexes.{Given, fits}
 use Rattle.variables.specs.Judgements.{bad_table_at, judged}
-use Rattle.lookups.specs.Lookups.{found_as, found_by, looked_up, value_part, found_number, found_counted, found_place, found_kind, found_start, found_length}
-use Rattle.variables.specs.declared.Checked.{Checked}
-use Rattle.variables.specs.declared.Checked.TheVariants.{Good as GoodTable, BadTable as OfBadTable}
-use Rattle.lookups.specs.declared.Found.{Found}
-use Rattle.lookups.specs.declared.Found.TheVariants.{At, Unknown, BadTable, BadIndex as Misfit}
-use Rattle.variables.specs.declared.both.Judged.{Judged}
-use Rattle.variables.specs.declared.both.Judged.TheVariants.{Good as AllGood, BadTable as OneBad}
+use Rattle.lookups.specs.Lookups.{Found, found_as, found_by, looked_up, value_part, found_number, found_counted, found_place, found_kind, found_start, found_length}
+use Rattle.lookups.specs.declared.NotGood.TheVariants.{Table, Index}
 use Rattle.variables.proofs.Bounds.{checked_bounded, over_length_exactly, good_table, bad_number, Within, judged_within}
 use Rattle.lookups.proofs.Bounds.{looked_up_bounded}
 use Rattle.variables.proofs.Format.{format}
@@ -62,15 +59,15 @@ over_length table r c =
 
 module _ (table : List ℕ) where
   -- a table whose number is 0 is a good one
-  check_accepts_by : (d : Checked) → checked table ≡ d → (check_number d ≡ 0) ↔ (is_good d ≡ true)
-  check_accepts_by (GoodTable n) e = (λ _. refl, λ _. refl)
-  check_accepts_by (OfBadTable number at) e = (λ z. absurd (omega (arith, (checked_bounded table).refused number at e)), λ z. clash (cc))
+  check_accepts_by : (d : Result ℕ BadTable) → checked table ≡ d → (check_number d ≡ 0) ↔ (is_good d ≡ true)
+  check_accepts_by (Ok n) e = (λ _. refl, λ _. refl)
+  check_accepts_by (Err b) e = (λ z. absurd (omega (arith, (checked_bounded table).refused b e)), λ z. clash (cc))
 
-  records_of_lem : (d : Checked) → checked table ≡ d → check_number d ≡ 0 → Records table d
-  records_of_lem (GoodTable n) e z =
+  records_of_lem : (d : Result ℕ BadTable) → checked table ≡ d → check_number d ≡ 0 → Records table d
+  records_of_lem (Ok n) e z =
       let l = laid table e in
       record { bytes = format table e; count = l.counted; few = l.few; sounds = l.sounds; unequal = λ e f a b same. unique l a b same }
-  records_of_lem (OfBadTable number at) e z = absurd (omega (arith, (checked_bounded table).refused number at e))
+  records_of_lem (Err b) e z = absurd (omega (arith, (checked_bounded table).refused b e))
 
 pub check_accepts : CheckAccepts
 check_accepts table r c = check_accepts_by table r (sym c.answer)
@@ -79,7 +76,7 @@ pub records : Good
 records table r c = records_of_lem table r (sym c.answer)
 
 -- good tables are judged so
-both_so : (farm house : List ℕ) → check_number (checked farm) ≡ 0 → check_number (checked house) ≡ 0 → (n : ℕ) × (judged farm house ≡ AllGood n)
+both_so : (farm house : List ℕ) → check_number (checked farm) ≡ 0 → check_number (checked house) ≡ 0 → (n : ℕ) × (judged farm house ≡ Ok n)
 both_so farm house f h =
     let g = good_table farm f in
     let k = good_table house h in
@@ -97,10 +94,10 @@ module _ (farm house name : List ℕ) where
   sought = sought_in_both farm house name
 
   abbrev F : Holding → Found
-  F h = found_as farm house h
+  F h = Ok (found_as farm house h)
 
   -- in good tables: the record that has the name, or none
-  module _ (count : ℕ) (good : judged farm house ≡ AllGood count) where
+  module _ (count : ℕ) (good : judged farm house ≡ Ok count) where
     laid_in : (holder : Holder) → (n : ℕ) × Laid (held_by holder farm house) n
     laid_in Farm = let g = both_are farm house good in (g.own, laid farm g.farm_good)
     laid_in House = let g = both_are farm house good in (g.rest, laid house g.house_good)
@@ -167,35 +164,35 @@ module _ (farm house name : List ℕ) where
         clash (cc (sym n ∙ sym (same_sought (records_of farm) e.name name same) ∙ own (laid_in Farm).1 m))
 
   -- a refusal of the tables has a number that is neither 0 nor that of an unknown name
-  module _ (number : ℕ) (holder : Holder) (at : RecordPlace) (e : judged farm house ≡ OneBad number holder at) where
-    numbered : allowance_spent < number
-    numbered = bad_number farm house number holder at.0 e
+  module _ (b : BadTableOf) (e : judged farm house ≡ Err b) where
+    numbered : allowance_spent < refusal_number b.why
+    numbered = bad_number farm house b.why b.holder b.at.0 e
 
-    not_misfit : number ≡ bad_index → ⊥
+    not_misfit : refusal_number b.why ≡ bad_index → ⊥
     not_misfit = not_by_check (subst Within e (judged_within farm house)).2
 
-  abbrev G : Judged → Bool → Found
+  abbrev G : Result ℕ BadTableOf → Bool → Found
   G d f = found_by farm house name d f
 
   known_in : (h : Holding) → (found_number (F h) ≡ 0) ↔ (is_known (F h) ≡ true)
   known_in nowhere = (λ z. absurd (omega arith), λ z. clash (cc))
   known_in (held holder e) = (λ _. refl, λ _. refl)
 
-  known_by : (d : Judged) (f : Bool) → judged farm house ≡ d → (found_number (G d f) ≡ 0) ↔ (is_known (G d f) ≡ true)
-  known_by (AllGood n) true e = known_in sought
-  known_by (AllGood n) false e = (λ z. absurd (omega arith), λ z. clash (cc))
-  known_by (OneBad number holder at) f e = (λ z. absurd (omega (arith, numbered number holder at e)), λ z. clash (cc))
+  known_by : (d : Result ℕ BadTableOf) (f : Bool) → judged farm house ≡ d → (found_number (G d f) ≡ 0) ↔ (is_known (G d f) ≡ true)
+  known_by (Ok n) true e = known_in sought
+  known_by (Ok n) false e = (λ z. absurd (omega arith), λ z. clash (cc))
+  known_by (Err b) f e = (λ z. absurd (omega (arith, numbered b e)), λ z. clash (cc))
 
-  names_by : (d : Judged) (f : Bool) → judged farm house ≡ d → found_number (G d f) ≡ 0 → Names farm house name (G d f)
-  names_by (AllGood n) true e z = names_in n e (sought_where farm house name) z
-  names_by (AllGood n) false e z = absurd (omega arith)
-  names_by (OneBad number holder at) f e z = absurd (omega (arith, numbered number holder at e))
+  names_by : (d : Result ℕ BadTableOf) (f : Bool) → judged farm house ≡ d → found_number (G d f) ≡ 0 → Names farm house name (G d f)
+  names_by (Ok n) true e z = names_in n e (sought_where farm house name) z
+  names_by (Ok n) false e z = absurd (omega arith)
+  names_by (Err b) f e z = absurd (omega (arith, numbered b e))
 
-  inside_by : (d : Judged) (f : Bool) → judged farm house ≡ d → (holder : Holder) → found_number (G d f) ≡ 0 → found_counted (G d f) ≡ counted_in holder
+  inside_by : (d : Result ℕ BadTableOf) (f : Bool) → judged farm house ≡ d → (holder : Holder) → found_number (G d f) ≡ 0 → found_counted (G d f) ≡ counted_in holder
       → found_start (G d f) + found_length (G d f) ≤ length (held_by holder farm house)
-  inside_by (AllGood n) true e holder z q = inside_in n e (sought_where farm house name) holder z q
-  inside_by (AllGood n) false e holder z q = omega arith
-  inside_by (OneBad number holder at) f e h z q = omega arith
+  inside_by (Ok n) true e holder z q = inside_in n e (sought_where farm house name) holder z q
+  inside_by (Ok n) false e holder z q = omega arith
+  inside_by (Err b) f e h z q = omega arith
 
   abbrev Bare : Found → Type 0
   Bare r =
@@ -206,10 +203,10 @@ module _ (farm house name : List ℕ) where
   bare_in nowhere n = (refl, refl, refl, λ _. (refl, refl))
   bare_in (held holder e) n = absurd (n refl)
 
-  bare_by : (d : Judged) (f : Bool) → judged farm house ≡ d → Bare (G d f)
-  bare_by (AllGood n) true e = bare_in sought
-  bare_by (AllGood n) false e = λ _. (refl, refl, refl, λ z. absurd (omega arith))
-  bare_by (OneBad number holder at) f e = λ _. (refl, refl, refl, λ z. absurd (omega (arith, z, numbered number holder at e)))
+  bare_by : (d : Result ℕ BadTableOf) (f : Bool) → judged farm house ≡ d → Bare (G d f)
+  bare_by (Ok n) true e = bare_in sought
+  bare_by (Ok n) false e = λ _. (refl, refl, refl, λ z. absurd (omega arith))
+  bare_by (Err b) f e = λ _. (refl, refl, refl, λ z. absurd (omega (arith, z, numbered b e)))
 
   -- what holds of both tables and of the index, and something more
   module _ (given : Given) where
@@ -217,26 +214,26 @@ module _ (farm house name : List ℕ) where
     Sound fit More = (check_number (checked farm) ≡ 0) × (check_number (checked house) ≡ 0) × (fits given house ≡ fit) × More
 
     -- where the tables and the index are found so
-    module _ {n : ℕ} (e : judged farm house ≡ AllGood n) {fit : Bool} (q : fits given house ≡ fit) where
+    module _ {n : ℕ} (e : judged farm house ≡ Ok n) {fit : Bool} (q : fits given house ≡ fit) where
       sound : {More : Type 0} → More → Sound fit More
       sound m = let g = both_are farm house e in (ap check_number g.farm_good, ap check_number g.house_good, q, m)
 
     -- tables that are refused are not both good
-    no_good : {number : ℕ} {holder : Holder} {at : RecordPlace} {A : Type 0} → judged farm house ≡ OneBad number holder at
+    no_good : {b : BadTableOf} {A : Type 0} → judged farm house ≡ Err b
         → check_number (checked farm) ≡ 0 → check_number (checked house) ≡ 0 → A
     no_good e f h = clash (cc (sym e ∙ (both_so farm house f h).1))
 
-    missed_by : (d : Judged) (f : Bool) → judged farm house ≡ d → fits given house ≡ f
+    missed_by : (d : Result ℕ BadTableOf) (f : Bool) → judged farm house ≡ d → fits given house ≡ f
         → (found_number (G d f) ≡ unknown_name)
         ↔ Sound true ((holder : Holder) (e : Entry) → Memᴰ e (records_of (held_by holder farm house)) → same_name e.name name ≡ false)
-    missed_by (AllGood n) true e q =
+    missed_by (Ok n) true e q =
         let m = missed_in n e (sought_where farm house name) in
         (λ z. sound e q (m.0 z), λ h. m.1 h.3)
-    missed_by (AllGood n) false e q = (λ z. absurd (omega arith), λ h. absurd (true≢false (sym h.2 ∙ q)))
-    missed_by (OneBad number holder at) f e q = (λ z. absurd (omega (arith, numbered number holder at e)), λ h. no_good e h.0 h.1)
+    missed_by (Ok n) false e q = (λ z. absurd (omega arith), λ h. absurd (true≢false (sym h.2 ∙ q)))
+    missed_by (Err b) f e q = (λ z. absurd (omega (arith, numbered b e)), λ h. no_good e h.0 h.1)
 
     -- a record that has the name is found
-    found_so : {n : ℕ} → judged farm house ≡ AllGood n → HasIt farm house name → {h : Holding} → Where farm house name h → found_number (found_as farm house h) ≡ 0
+    found_so : {n : ℕ} → judged farm house ≡ Ok n → HasIt farm house name → {h : Holding} → Where farm house name h → found_number (F h) ≡ 0
     found_so e i (found_in_farm x p) = refl
     found_so e i (found_in_house x n p) = refl
     found_so e i (in_neither n m) =
@@ -247,10 +244,10 @@ module _ (farm house name : List ℕ) where
     has : {d : Found} → Names farm house name d → HasIt farm house name
     has n = record { holder = n.holder; entry = n.entry; member = n.member; named = n.named }
 
-    has_by : (d : Judged) (f : Bool) → judged farm house ≡ d → fits given house ≡ f → (found_number (G d f) ≡ 0) ↔ Sound true (HasIt farm house name)
-    has_by (AllGood n) true e q = (λ z. sound e q (has (names_by (AllGood n) true e z)), λ h. found_so e h.3 (sought_where farm house name))
-    has_by (AllGood n) false e q = (λ z. absurd (omega arith), λ h. absurd (true≢false (sym h.2 ∙ q)))
-    has_by (OneBad number holder at) f e q = (λ z. absurd (omega (arith, numbered number holder at e)), λ h. no_good e h.0 h.1)
+    has_by : (d : Result ℕ BadTableOf) (f : Bool) → judged farm house ≡ d → fits given house ≡ f → (found_number (G d f) ≡ 0) ↔ Sound true (HasIt farm house name)
+    has_by (Ok n) true e q = (λ z. sound e q (has (names_by (Ok n) true e z)), λ h. found_so e h.3 (sought_where farm house name))
+    has_by (Ok n) false e q = (λ z. absurd (omega arith), λ h. absurd (true≢false (sym h.2 ∙ q)))
+    has_by (Err b) f e q = (λ z. absurd (omega (arith, numbered b e)), λ h. no_good e h.0 h.1)
 
     abbrev Misfits : Found → Type 0
     Misfits r =
@@ -261,18 +258,18 @@ module _ (farm house name : List ℕ) where
     known_fits nowhere z = omega arith
     known_fits (held holder e) z = omega arith
 
-    misfit_by : (d : Judged) (f : Bool) → judged farm house ≡ d → fits given house ≡ f → Misfits (G d f)
-    misfit_by (AllGood n) false e q = (
+    misfit_by : (d : Result ℕ BadTableOf) (f : Bool) → judged farm house ≡ d → fits given house ≡ f → Misfits (G d f)
+    misfit_by (Ok n) false e q = (
       (λ z. let g = both_are farm house e in (ap check_number g.farm_good, ap check_number g.house_good, q), λ _. refl),
       λ _. (refl, refl),
     )
-    misfit_by (AllGood n) true e q = (
+    misfit_by (Ok n) true e q = (
       (λ z. absurd (known_fits sought z), λ h. absurd (true≢false (sym q ∙ h.2))),
       λ z. absurd (known_fits sought z),
     )
-    misfit_by (OneBad number holder at) f e q = (
-      (λ z. absurd (not_misfit number holder at e z), λ h. no_good e h.0 h.1),
-      λ z. absurd (not_misfit number holder at e z),
+    misfit_by (Err b) f e q = (
+      (λ z. absurd (not_misfit b e z), λ h. no_good e h.0 h.1),
+      λ z. absurd (not_misfit b e z),
     )
 
     defined : G (judged farm house) (fits given house) ≡ looked_up farm house given name
@@ -288,9 +285,9 @@ look_up_accepts farm house given name r c =
     as_judged farm house name given (λ r. (found_number r ≡ 0) ↔ (is_known r ≡ true)) r c.answer (known_by farm house name (judged farm house) (fits given house) refl)
 
 pub judges : Judges
-judges farm house given name r number holder place c e =
-    let refused-so = (refused [] farm house number holder place e).1 in
-    let is : r ≡ found_by farm house name (bad_table_at number holder place) (fits given house) =
+judges farm house given name r why holder place c e =
+    let refused-so = (refused [] farm house why holder place e).1 in
+    let is : r ≡ found_by farm house name (bad_table_at why holder place) (fits given house) =
     c.answer ∙ sym (defined farm house name given) ∙ ap (λ d. found_by farm house name d (fits given house)) refused-so in
     (ap found_number is, ap found_counted is, ap found_place is)
 
@@ -306,7 +303,7 @@ known farm house given name r c =
 pub hides : Hides
 hides farm house given name r e c f h fit m same =
     let good = both_so farm house f h in
-    let is : found_by farm house name (AllGood good.0) true ≡ r =
+    let is : found_by farm house name (Ok good.0) true ≡ r =
     ap₂ (found_by farm house name) (sym good.1) (sym fit) ∙ defined farm house name given ∙ sym c.answer in
     subst (λ r. (found_number r ≡ 0) × (found_counted r ≡ in_farm) × (found_place r ≡ e.place) × (found_kind r ≡ e.kind)) is
     (hidden_in farm house name good.0 good.1 (sought_where farm house name) e m same)
@@ -341,13 +338,13 @@ part_of : (farm house : List ℕ) (r : Found)
     → ((holder : Holder) → found_number r ≡ 0 → found_counted r ≡ counted_in holder
     → value_part farm house r ≡ take (found_length r) (drop (found_start r) (held_by holder farm house)))
     × ((found_number r ≡ 0 → ⊥) → value_part farm house r ≡ [])
-part_of farm house (At v) = (
+part_of farm house (Ok (Some v)) = (
   λ holder z q. ap (λ h. take v.length (drop v.start (held_by h farm house))) (told_apart v.holder holder q),
   λ n. absurd (n refl),
 )
-part_of farm house Unknown = (λ holder z q. absurd (omega arith), λ _. refl)
-part_of farm house (BadTable number holder at) = (λ h z q. refl, λ _. refl)
-part_of farm house Misfit = (λ h z q. refl, λ _. refl)
+part_of farm house (Ok None) = (λ holder z q. absurd (omega arith), λ _. refl)
+part_of farm house (Err (Table b)) = (λ h z q. refl, λ _. refl)
+part_of farm house (Err Index) = (λ h z q. refl, λ _. refl)
 
 pub part : Part
 part farm house given name handed r c p =

@@ -9,9 +9,8 @@ use Rattle.paper.specs.Refusals.{unknown_call}
 use Rattle.paper.proofs.Laid as Laid
 use Rattle.forms.specs.Strings.{Form, string}
 use Rattle.forms.specs.Calls.{Described, unknown, known, described}
-use Rattle.paper.specs.Layings.{converted_answer}
+use Rattle.paper.specs.Layings.{Converted, converted_answer}
 use Rattle.numbers.specs.Conversions.{answer_in, buffer_in, answer_of, buffer_of}
-use Rattle.paper.specs.declared.layings.Converted.{Converted}
 use Rattle.numbers.proofs.PaperNumbers.{converted_kept}
 use Rattle.promises.specs.Allowed.{Converts}
 

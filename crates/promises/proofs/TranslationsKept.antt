@@ -7,23 +7,24 @@ use mathlib.Core.Logic.{◌↔◌}
 use Prim.Native.Nat.{ℕ, ◌+◌, ◌-◌, ◌≤◌, ◌<◌}
 use native.Mathlib.Decide.{dec_lt}
 use native.Mathlib.Omega.{arith}
-use borrow.Author.Tests.{eqb-false}
-use lib.Dec.{eqb}
 use lib.ListN.{length, take, drop}
 use lib.Seq.{take-append_seam, drop-append_seam}
+use Rattle.std.specs.Prelude.{Ok, Err}
 use Rattle.paper.specs.Answers.{in_text, in_farm, in_house, in_index, Answer, refusal, Grown, GrownWhole}
 use Rattle.paper.specs.Refusals as Refusals
 use Rattle.paper.specs.Refusals.{no_room, allowance_spent, over_length, bad_index, longest}
 use Rattle.paper.specs.Traces.{Trace, bytes, answer, Succeeds, look_ups, allowed}
-use Rattle.paper.proofs.Choice.{clash, either}
+use Rattle.paper.proofs.Choice.{clash}
+use Rattle.paper.proofs.Refused.{refused_above}
 use Rattle.paper.proofs.DemandThree.{more_of_both, need_stays, second_ask, no_room_exactly, no_room_need, spent_exactly, refused_answer, accepted_need, accepted_exactly, not_over_length}
 use Rattle.variables.specs.Judgements.{Judgement, good, long_text, bad_table, judgement, judged_by}
 use Rattle.variables.proofs.Bounds.{bad_number, Within, judged_within}
-use Rattle.variables.specs.declared.both.Judged.{Judged}
+use Rattle.std.specs.Prelude.{Result}
+use Rattle.paper.specs.declared.refusals.BadTableOf.{BadTableOf}
 use Rattle.variables.proofs.Judging.{over, within, refused, Case, long_farm, long_house, bad_farm, bad_house, both_good, judged_case}
 use Rattle.indexes.specs.Indexes.{Given, fits}
-use Rattle.gs.specs.Translations.{reading_of, translated_by, translated_over, translated, translated_answer, left_by, out_after}
-use Rattle.gs.specs.declared.Translated.{Translated}
+use Rattle.gs.specs.Translations.{Translation, reading_of, translated_over, translated, translated_answer, left_by, out_after}
+use Rattle.gs.specs.declared.NotTranslated.TheVariants as Not
 use Rattle.gs.proofs.Answers.{good_answer, long_text_answer, bad_index_answer, bad_table_answer, written_buffer, kept_buffer}
 use Rattle.gs.proofs.Limits.{translated_listed}
 use Rattle.promises.proofs.OtherNumbers.{not_by_reading, not_by_check}
@@ -46,7 +47,7 @@ module _ (t : Trace) where
   judged_refused good false allowance room = λ n. (refl, λ m. refl)
   judged_refused good true allowance room = refused_answer t (allowed allowance) room
   judged_refused long_text f allowance room = λ n. (refl, λ m. refl)
-  judged_refused (bad_table number holder place) f allowance room = λ n. (refl, λ m. refl)
+  judged_refused (bad_table why holder place) f allowance room = λ n. (refl, λ m. refl)
 
   judged_grows : (d : Judgement) (f : Bool) (allowance allowance' room more : ℕ) → allowance ≤ allowance'
       → ((judged_answer d f t allowance room).number ≡ no_room → ⊥) → ((judged_answer d f t allowance room).number ≡ allowance_spent → ⊥)
@@ -58,7 +59,7 @@ module _ (t : Trace) where
       (more_of_both t (allowed allowance) room (allowed allowance' - allowed allowance) more n m)
   judged_grows long_text f allowance allowance' room more up n m =
       record { number = refl; counted = refl; place = refl; need = refl; free = refl }
-  judged_grows (bad_table number holder place) f allowance allowance' room more up n m =
+  judged_grows (bad_table why holder place) f allowance allowance' room more up n m =
       record { number = refl; counted = refl; place = refl; need = refl; free = refl }
 
 -- the same bytes in two buffers, by what an answer says of them
@@ -95,7 +96,7 @@ module _ (text farm house : List ℕ) (given : Given) (flags allowance room : �
   judged_as good true e q = good_answer text farm house given flags allowance room e q
   judged_as good false e q = bad_index_answer text farm house given flags allowance room e q
   judged_as long_text f e q = long_text_answer text farm house given flags allowance room e
-  judged_as (bad_table number holder place) f e q = bad_table_answer text farm house given flags allowance room number holder place e
+  judged_as (bad_table why holder place) f e q = bad_table_answer text farm house given flags allowance room why holder place e
 
   abbrev judged : Answer
   judged = judged_answer (judgement text farm house) (fits given house) reading allowance room
@@ -108,7 +109,7 @@ module _ (text farm house : List ℕ) (given : Given) (flags allowance room : �
       go good true e = accepted_need reading (allowed allowance) room
       go good false e = λ z. absurd (omega arith)
       go long_text f e = λ z. absurd (omega arith)
-      go (bad_table number holder place) f e = λ z. absurd (omega (arith, bad_number farm house number holder place (refused text farm house number holder place e).1))
+      go (bad_table why holder place) f e = λ z. absurd (omega (arith, bad_number farm house why holder place (refused text farm house why holder place e).1))
 
   judged_no_room : (judged.number ≡ no_room)
       ↔ ((judgement text farm house ≡ good) × (fits given house ≡ true) × (look_ups reading ≤ allowed allowance) × Succeeds reading × (room < length (bytes reading)))
@@ -122,9 +123,9 @@ module _ (text farm house : List ℕ) (given : Given) (flags allowance room : �
           (λ h. let s = exactly.0 h in (e, q, s.0, s.1, s.2), λ h. exactly.1 (h.2, h.3, h.4))
       go good false e q = (λ h. absurd (omega arith), λ h. absurd (false≢true (sym q ∙ h.1)))
       go long_text f e q = (λ h. absurd (omega arith), λ h. absurd (not_good text farm house long_text e (λ q. clash (cc)) h.0))
-      go (bad_table number holder place) f e q = (
-        λ h. absurd (omega (arith, bad_number farm house number holder place (refused text farm house number holder place e).1)),
-        λ h. absurd (not_good text farm house (bad_table number holder place) e (λ q. clash (cc)) h.0),
+      go (bad_table why holder place) f e q = (
+        λ h. absurd (omega (arith, bad_number farm house why holder place (refused text farm house why holder place e).1)),
+        λ h. absurd (not_good text farm house (bad_table why holder place) e (λ q. clash (cc)) h.0),
       )
 
   judged_accepted : (judged.number ≡ 0)
@@ -139,9 +140,9 @@ module _ (text farm house : List ℕ) (given : Given) (flags allowance room : �
           (λ h. let s = exactly.0 h in (e, q, s.0, s.1, s.2), λ h. exactly.1 (h.2, h.3, h.4))
       go good false e q = (λ h. absurd (omega arith), λ h. absurd (false≢true (sym q ∙ h.1)))
       go long_text f e q = (λ h. absurd (omega arith), λ h. absurd (not_good text farm house long_text e (λ q. clash (cc)) h.0))
-      go (bad_table number holder place) f e q = (
-        λ h. absurd (omega (arith, bad_number farm house number holder place (refused text farm house number holder place e).1)),
-        λ h. absurd (not_good text farm house (bad_table number holder place) e (λ q. clash (cc)) h.0),
+      go (bad_table why holder place) f e q = (
+        λ h. absurd (omega (arith, bad_number farm house why holder place (refused text farm house why holder place e).1)),
+        λ h. absurd (not_good text farm house (bad_table why holder place) e (λ q. clash (cc)) h.0),
       )
 
   -- 18 of the text, of the farm's table and of the house's
@@ -169,7 +170,7 @@ module _ (text farm house : List ℕ) (given : Given) (flags allowance room : �
     (λ h. absurd (omega (arith, h.1)), λ h. absurd (omega (arith, h.0))),
   )
 
-  tables_over : length text ≤ longest → (f : Bool) → {r : Judged} → Case farm house r → Over (judged_by r) f
+  tables_over : length text ≤ longest → (f : Bool) → {r : Result ℕ BadTableOf} → Case farm house r → Over (judged_by r) f
   tables_over t fit (long_farm l) = (
     (λ h. absurd (omega (arith, h.1)), λ h. absurd (omega arith)),
     (λ _. (t, l), λ _. (refl, refl)),
@@ -207,32 +208,20 @@ module _ (text farm house : List ℕ) (given : Given) (flags allowance room : �
           (λ h. (e, q, exactly.0 h), λ h. exactly.1 h.2)
       go good false e q = (λ h. absurd (omega arith), λ h. absurd (false≢true (sym q ∙ h.1)))
       go long_text f e q = (λ h. absurd (omega arith), λ h. absurd (not_good text farm house long_text e (λ q. clash (cc)) h.0))
-      go (bad_table number holder place) f e q = (
-        λ h. absurd (omega (arith, bad_number farm house number holder place (refused text farm house number holder place e).1)),
-        λ h. absurd (not_good text farm house (bad_table number holder place) e (λ q. clash (cc)) h.0),
+      go (bad_table why holder place) f e q = (
+        λ h. absurd (omega (arith, bad_number farm house why holder place (refused text farm house why holder place e).1)),
+        λ h. absurd (not_good text farm house (bad_table why holder place) e (λ q. clash (cc)) h.0),
       )
 
 -- an answer as the code has it is accepted exactly where its number is 0
-accepts_by : (a : Answer) → ((translated_answer (translated_by a)).number ≡ 0) ↔ (is_translated (translated_by a) ≡ true)
-accepts_by a =
-    either (λ r. ((translated_answer r).number ≡ 0) ↔ (is_translated r ≡ true)) (eqb a.number 0)
-    (λ _. (λ _. refl, λ _. refl)) (λ e. (λ z. absurd (eqb-false a.number 0 e z), λ z. clash (cc)))
-
-module _ (text farm house : List ℕ) (given : Given) (flags allowance room : ℕ) where
-  accepts_over : (d : Judgement) (f : Bool) → judgement text farm house ≡ d
-      → let r = translated_over d f (reading_of text farm house flags) allowance room in ((translated_answer r).number ≡ 0) ↔ (is_translated r ≡ true)
-  accepts_over good false e = (λ z. absurd (omega arith), λ z. clash (cc))
-  accepts_over good true e = accepts_by (answer (reading_of text farm house flags) (allowed allowance) room)
-  accepts_over long_text f e = (λ z. absurd (omega arith), λ z. clash (cc))
-  accepts_over (bad_table number holder place) f e = (λ z. absurd (omega (arith, bad_number farm house number holder place (refused text farm house number holder place e).1)), λ z. clash (cc))
-
-  accepts_translated : let r = translated text farm house given flags allowance room in ((translated_answer r).number ≡ 0) ↔ (is_translated r ≡ true)
-  unfolding translated
-  accepts_translated = accepts_over (judgement text farm house) (fits given house) refl
+accepted_as : (r : Translation) → ((translated_answer r).number ≡ 0) ↔ (is_translated r ≡ true)
+accepted_as (Ok t) = (λ _. refl, λ _. refl)
+accepted_as (Err (Not.Refused why at need free)) = (λ z. absurd (refused_above why z), λ z. clash (cc))
+accepted_as (Err (Not.BadTable bad free)) = (λ z. absurd (refused_above bad.why z), λ z. clash (cc))
+accepted_as (Err (Not.BadIndex free)) = (λ z. absurd (omega arith), λ z. clash (cc))
 
 pub accepts : Accepts
-accepts text farm house given flags allowance out after r c =
-    subst (λ r. ((translated_answer r).number ≡ 0) ↔ (is_translated r ≡ true)) (sym c.answer) (accepts_translated text farm house given flags allowance (length out))
+accepts text farm house given flags allowance out after r c = accepted_as r
 
 pub refusals : Refusals
 refusals text farm house given flags allowance out after r c =
@@ -334,9 +323,9 @@ module _ (text farm house : List ℕ) (given : Given) (flags allowance room : �
         λ h. absurd (false≢true (sym h.1 ∙ q)),
       )
       go long_text f e q = (λ h. absurd (omega arith), λ h. absurd (not_good text farm house long_text e (λ q. clash (cc)) h.0))
-      go (bad_table number holder place) f e q = (
-        λ h. absurd (not_by_check (subst Within (refused text farm house number holder place e).1 (judged_within farm house)).2 h),
-        λ h. absurd (not_good text farm house (bad_table number holder place) e (λ q. clash (cc)) h.0),
+      go (bad_table why holder place) f e q = (
+        λ h. absurd (not_by_check (subst Within (refused text farm house why holder place e).1 (judged_within farm house)).2 h),
+        λ h. absurd (not_good text farm house (bad_table why holder place) e (λ q. clash (cc)) h.0),
       )
 
 pub misfits : BadIndex
@@ -352,7 +341,7 @@ through text farm house given flags allowance out after after' r r' fit c c' =
     (answers, c.buffer ∙ ap (λ r. left_by r (bytes (reading_of text farm house flags)) out) (sym c.answer ∙ answers ∙ c'.answer) ∙ sym c'.buffer)
 
 -- No room over a text and a table that are read
-module _ (text farm house : List ℕ) (given : Given) (flags allowance : ℕ) (out after : List ℕ) (r : Translated) (c : Translates text farm house given flags allowance out r after)
+module _ (text farm house : List ℕ) (given : Given) (flags allowance : ℕ) (out after : List ℕ) (r : Translation) (c : Translates text farm house given flags allowance out r after)
     (e : (translated_answer r).number ≡ no_room) where
   is_read : judgement text farm house ≡ good
   is_read = ((no_room_comes text farm house given flags allowance out after r c).0 e).0
@@ -360,7 +349,7 @@ module _ (text farm house : List ℕ) (given : Given) (flags allowance : ℕ) (o
   is_fit : fits given house ≡ true
   is_fit = ((no_room_comes text farm house given flags allowance out after r c).0 e).1
 
-  read_as : (allowance' : ℕ) (out' after' : List ℕ) (r' : Translated) → Translates text farm house given flags allowance' out' r' after'
+  read_as : (allowance' : ℕ) (out' after' : List ℕ) (r' : Translation) → Translates text farm house given flags allowance' out' r' after'
       → translated_answer r' ≡ answer (reading_of text farm house flags) (allowed allowance') (length out')
   read_as allowance' out' after' r' c' =
       by_reading text farm house given flags allowance' out' after' r' c'

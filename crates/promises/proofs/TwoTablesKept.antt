@@ -4,8 +4,9 @@ use mathlib.Core.List.{List, [], ◌∷◌}
 use Prim.Native.Nat.{ℕ, suc, ◌≤◌, ◌<◌}
 use native.Mathlib.Omega.{arith}
 use lib.ListN.{length}
-use Rattle.paper.specs.Refusals as Refusals
-use Rattle.paper.specs.Refusals.{over_length, longest}
+use Rattle.paper.specs.Answers.{counted_in}
+use Rattle.paper.specs.Refusals.{refusal_number, longest}
+use Rattle.paper.specs.declared.refusals.Refusal.TheVariants as Refusals
 use Rattle.paper.specs.Traces.{Trace, look_ups}
 use Rattle.paper.specs.declared.Holder.{Holder}
 use Rattle.paper.specs.declared.Holder.TheVariants.{Farm, House}
@@ -19,8 +20,8 @@ use Rattle.records.specs.declared.kinds.Kind.TheVariants.{Text, Integer, Macro}
 use Rattle.variables.specs.Names.{Meaning, value_as, meant, in_reading, names_of}
 use Rattle.variables.specs.Judgements as Judgements
 use Rattle.variables.specs.Judgements.{good, bad_table, judgement, judged_by}
-use Rattle.variables.specs.declared.both.Judged.{Judged}
-use Rattle.variables.specs.declared.both.Judged.TheVariants.{Good as AllGood, BadTable as OneBad}
+use Rattle.std.specs.Prelude.{Result, Ok, Err}
+use Rattle.paper.specs.declared.refusals.BadTableOf.{BadTableOf}
 use Rattle.variables.proofs.Bounds.{good_table}
 use Rattle.variables.proofs.Good.{laid}
 use Rattle.variables.proofs.Judging.{Case, long_farm, long_house, bad_farm, bad_house, both_good, judged_case, judged_so, within, over_exactly, read, refused}
@@ -32,46 +33,58 @@ use Rattle.expressions.specs.Evaluations.{name_steps, evaluation, result}
 use Rattle.promises.specs.TwoTables.{Ordered, InOrder, FarmFirst, alone, meant_in, HouseNext, EmptyFarm, ByNames, Held, MacroOfEither, OneLookUp, NoLookUp}
 
 -- the place of a bad table's refusal
-abbrev judged_place : Judged → ℕ
-judged_place (AllGood count) = 0
-judged_place (OneBad number holder at) = at.0
+abbrev judged_place : Result ℕ BadTableOf → ℕ
+judged_place (Ok count) = 0
+judged_place (Err bad) = bad.at.0
+
+-- two refusals that are not alike, by their numbers and by what their places are counted in
+abbrev judged_number : Result ℕ BadTableOf → ℕ
+judged_number (Ok count) = 0
+judged_number (Err bad) = refusal_number bad.why
+
+abbrev judged_counted : Result ℕ BadTableOf → ℕ
+judged_counted (Ok count) = 0
+judged_counted (Err bad) = counted_in bad.holder
+
+unlike : {A : Type 0} {r d : Result ℕ BadTableOf} → r ≡ d → ((judged_number r ≡ judged_number d) × (judged_counted r ≡ judged_counted d) → ⊥) → A
+unlike e n = absurd (n (ap judged_number e, ap judged_counted e))
 
 -- what the tables' judgement says of them, finding by finding
 module _ (farm house : List ℕ) where
-  farm_long : {r : Judged} → Case farm house r → r ≡ Judgements.bad_table_at over_length Farm 0 → longest < length farm
+  farm_long : {r : Result ℕ BadTableOf} → Case farm house r → r ≡ Judgements.bad_table_at Refusals.OverLength Farm 0 → longest < length farm
   farm_long (long_farm l) e = l
-  farm_long (long_house f l) e = clash (cc)
-  farm_long (bad_farm f h p b) e = let n : Refusals.bad_table ≡ over_length = cc in absurd (omega arith)
-  farm_long (bad_house f h o g p b) e = let n : Refusals.bad_table ≡ over_length = cc in absurd (omega arith)
+  farm_long (long_house f l) e = unlike e (λ q. omega arith)
+  farm_long (bad_farm f h p b) e = unlike e (λ q. omega arith)
+  farm_long (bad_house f h o g p b) e = unlike e (λ q. omega arith)
   farm_long (both_good f h o g c b) e = clash (cc)
 
-  house_long : {r : Judged} → Case farm house r → r ≡ Judgements.bad_table_at over_length House 0 → (length farm ≤ longest) × (longest < length house)
-  house_long (long_farm l) e = clash (cc)
+  house_long : {r : Result ℕ BadTableOf} → Case farm house r → r ≡ Judgements.bad_table_at Refusals.OverLength House 0 → (length farm ≤ longest) × (longest < length house)
+  house_long (long_farm l) e = unlike e (λ q. omega arith)
   house_long (long_house f l) e = (f, l)
-  house_long (bad_farm f h p b) e = let n : Refusals.bad_table ≡ over_length = cc in absurd (omega arith)
-  house_long (bad_house f h o g p b) e = let n : Refusals.bad_table ≡ over_length = cc in absurd (omega arith)
+  house_long (bad_farm f h p b) e = unlike e (λ q. omega arith)
+  house_long (bad_house f h o g p b) e = unlike e (λ q. omega arith)
   house_long (both_good f h o g c b) e = clash (cc)
 
   abbrev BothShort : Type 0
   BothShort = (length farm ≤ longest) × (length house ≤ longest)
 
-  farm_bad : (place : ℕ) {r : Judged} → Case farm house r → r ≡ Judgements.bad_table_at Refusals.bad_table Farm place
-      → BothShort × (checked farm ≡ bad_table_at Refusals.bad_table place)
-  farm_bad place (long_farm l) e = let n : over_length ≡ Refusals.bad_table = cc in absurd (omega arith)
-  farm_bad place (long_house f l) e = clash (cc)
-  farm_bad place (bad_farm f h p b) e = let same : p ≡ place = ap (λ (r : Judged). judged_place r) e in ((f, h), b ∙ ap (bad_table_at Refusals.bad_table) same)
-  farm_bad place (bad_house f h o g p b) e = clash (cc)
+  farm_bad : (place : ℕ) {r : Result ℕ BadTableOf} → Case farm house r → r ≡ Judgements.bad_table_at Refusals.BadTable Farm place
+      → BothShort × (checked farm ≡ bad_table_at Refusals.BadTable place)
+  farm_bad place (long_farm l) e = unlike e (λ q. omega arith)
+  farm_bad place (long_house f l) e = unlike e (λ q. omega arith)
+  farm_bad place (bad_farm f h p b) e = let same : p ≡ place = ap (λ (r : Result ℕ BadTableOf). judged_place r) e in ((f, h), b ∙ ap (bad_table_at Refusals.BadTable) same)
+  farm_bad place (bad_house f h o g p b) e = unlike e (λ q. omega arith)
   farm_bad place (both_good f h o g c b) e = clash (cc)
 
-  house_bad : (place : ℕ) {r : Judged} → Case farm house r → r ≡ Judgements.bad_table_at Refusals.bad_table House place
-      → BothShort × (check_number (checked farm) ≡ 0) × (checked house ≡ bad_table_at Refusals.bad_table place)
-  house_bad place (long_farm l) e = clash (cc)
-  house_bad place (long_house f l) e = let n : over_length ≡ Refusals.bad_table = cc in absurd (omega arith)
-  house_bad place (bad_farm f h p b) e = clash (cc)
-  house_bad place (bad_house f h o g p b) e = let same : p ≡ place = ap (λ (r : Judged). judged_place r) e in ((f, h), ap check_number g, b ∙ ap (bad_table_at Refusals.bad_table) same)
+  house_bad : (place : ℕ) {r : Result ℕ BadTableOf} → Case farm house r → r ≡ Judgements.bad_table_at Refusals.BadTable House place
+      → BothShort × (check_number (checked farm) ≡ 0) × (checked house ≡ bad_table_at Refusals.BadTable place)
+  house_bad place (long_farm l) e = unlike e (λ q. omega arith)
+  house_bad place (long_house f l) e = unlike e (λ q. omega arith)
+  house_bad place (bad_farm f h p b) e = unlike e (λ q. omega arith)
+  house_bad place (bad_house f h o g p b) e = let same : p ≡ place = ap (λ (r : Result ℕ BadTableOf). judged_place r) e in ((f, h), ap check_number g, b ∙ ap (bad_table_at Refusals.BadTable) same)
   house_bad place (both_good f h o g c b) e = clash (cc)
 
-  all_good : {r : Judged} → Case farm house r → judged_by r ≡ good
+  all_good : {r : Result ℕ BadTableOf} → Case farm house r → judged_by r ≡ good
       → BothShort × (check_number (checked farm) ≡ 0) × (check_number (checked house) ≡ 0)
   all_good (long_farm l) e = clash (cc)
   all_good (long_house f l) e = clash (cc)
@@ -82,7 +95,7 @@ module _ (farm house : List ℕ) where
 -- and of the text before them
 module _ (text farm house : List ℕ) where
   -- a finding of the tables comes where the text is not too long
-  found : length text ≤ longest → {r : Judged} → Case farm house r → judgement text farm house ≡ judged_by r
+  found : length text ≤ longest → {r : Result ℕ BadTableOf} → Case farm house r → judgement text farm house ≡ judged_by r
   found t c = within text farm house t ∙ ap judged_by (judged_so farm house c)
 
   ordered : Ordered text farm house
@@ -90,26 +103,26 @@ module _ (text farm house : List ℕ) where
       record {
         text_long = over_exactly text farm house;
         farm_long = (
-          λ e. let r = refused text farm house over_length Farm 0 e in (r.0, farm_long farm house (judged_case farm house) r.1),
+          λ e. let r = refused text farm house Refusals.OverLength Farm 0 e in (r.0, farm_long farm house (judged_case farm house) r.1),
           λ (t, l). found t (long_farm l),
         );
         house_long = (
           λ e.
-              let r = refused text farm house over_length House 0 e in
+              let r = refused text farm house Refusals.OverLength House 0 e in
               let l = house_long farm house (judged_case farm house) r.1 in
               (r.0, l.0, l.1),
           λ (t, f, l). found t (long_house f l),
         );
         farm_bad = λ place. (
           λ e.
-              let r = refused text farm house Refusals.bad_table Farm place e in
+              let r = refused text farm house Refusals.BadTable Farm place e in
               let b = farm_bad farm house place (judged_case farm house) r.1 in
               ((r.0, b.0.0, b.0.1), b.1),
           λ ((t, f, h), b). found t (bad_farm f h place b),
         );
         house_bad = λ place. (
           λ e.
-              let r = refused text farm house Refusals.bad_table House place e in
+              let r = refused text farm house Refusals.BadTable House place e in
               let b = house_bad farm house place (judged_case farm house) r.1 in
               ((r.0, b.0.0, b.0.1), b.1, b.2),
           λ ((t, f, h), z, b). let g = good_table farm z in found t (bad_house f h g.0 g.1 place b),

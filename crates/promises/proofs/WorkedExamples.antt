@@ -10,7 +10,7 @@ use lib.IntN.{pos, neg_ℤ}
 use lib.ListN.{length, take, drop}
 use Rattle.paper.specs.Answers.{Answer, in_text, in_house, in_farm}
 use Rattle.paper.specs.Bytes.{name_byte, word_byte}
-use Rattle.paper.specs.Layings.{terminator, room_for, laying_of, converted_by, converted_answer}
+use Rattle.paper.specs.Layings.{terminator, room_for, laying_of, Converted, converted_by, converted_answer}
 use Rattle.paper.specs.Refusals.{no_room, bad_base, too_deep, allowance_spent, bad_table, bad_expression, not_an_integer, over_length, bad_field}
 use Rattle.paper.specs.Texts.{bytes}
 use Rattle.paper.specs.Traces as Traces
@@ -19,7 +19,6 @@ use Rattle.forms.specs.Strings.{Form, string}
 use Rattle.forms.specs.Calls.{hex, decimal, bare, known, ranged, described}
 use Rattle.forms.specs.declared.forms.Width.TheVariants.{Byte, ThreeBytes, Word}
 use Rattle.numbers.specs.Conversions.{answer_of}
-use Rattle.paper.specs.declared.layings.Converted.{Converted}
 use Rattle.calendar.specs.Counting.{total}
 use Rattle.calendar.specs.Dates.{last_begun, date_of}
 use Rattle.calendar.specs.Moments.{moment_at}
@@ -33,18 +32,18 @@ use Rattle.variables.specs.Tables.{entries, sought, sound, scanned, checked}
 use Rattle.variables.specs.Judgements.{judged}
 use Rattle.indexes.specs.Indexes.{Given, no_index, given_index, inserted, inserted_all, index_of}
 use Rattle.indexes.specs.Buildings.{built, laid_by, index_after, built_answer}
+use Rattle.std.specs.Prelude.{Result}
 use Rattle.indexes.specs.declared.building.Built.{Built}
+use Rattle.indexes.specs.declared.building.NotBuilt.{NotBuilt}
 use Rattle.lookups.specs.Lookups.{looked_up, found_number, found_counted, found_place, found_kind}
 use Rattle.variables.specs.Names.{meant}
 use Rattle.symbols.specs.Symbols.{symbol_at, active, barred, code, coded, punctuation, topped_code, topped_symbol, referred, closed, quoted_other, first_at, mode_of}
 use Rattle.gs.specs.Readings.{name_gives, content_gives, symbol_gives, symbols_from, whole_text, expands}
-use Rattle.gs.specs.Translations.{reading_of, left_by, translated, out_after, translated_answer}
+use Rattle.gs.specs.Translations.{Translation, reading_of, left_by, translated, out_after, translated_answer}
 use Rattle.tokens.specs.Tokens.{word_token, fault_of, single, from_less, from_greater, symbol_at as sign_at, starting_at}
 use Rattle.expressions.specs.Trees.{operators_from, operand_at, whole_tree}
 use Rattle.expressions.specs.Evaluations.{divided}
-use Rattle.gs.specs.declared.Translated.{Translated}
-use Rattle.expressions.specs.declared.Evaluated.{Evaluated}
-use Rattle.expressions.specs.Answers.{evaluated, evaluated_number, evaluated_counted, evaluated_place, evaluated_value}
+use Rattle.expressions.specs.Answers.{Evaluated, evaluated, evaluated_number, evaluated_counted, evaluated_place, evaluated_value}
 use Rattle.arithmetic.specs.Values.{signed, sum, difference, product, quotient, remainder}
 use Rattle.promises.specs.Allowed.{Converts, Dates, Builds, Translates, Evaluates}
 use Rattle.promises.specs.Conversions as Numbers
@@ -149,7 +148,7 @@ p9 r c = (ap read_number c.answer, ap read_place c.answer)
 
 -- a row of a text over two tables, with an index or without: its answer and what it leaves are the definition's at the room
 given_row :
-    (text : String) (farm house : List ℕ) (given : Given) (allowance : ℕ) {room : ℕ} (out after : List ℕ) (r : Translated) → length out ≡ room
+    (text : String) (farm house : List ℕ) (given : Given) (allowance : ℕ) {room : ℕ} (out after : List ℕ) (r : Translation) → length out ≡ room
     → Translates (bytes text) farm house given 0 allowance out r after
     → (translated_answer r ≡ translated_answer (translated (bytes text) farm house given 0 allowance room))
     × (after ≡ left_by (translated (bytes text) farm house given 0 allowance room) (Traces.bytes (reading_of (bytes text) farm house 0)) out)
@@ -161,7 +160,7 @@ given_row text farm house given allowance out after r long c = (
 
 -- without one: its answer and what it leaves are the definition's at the room
 translated_row :
-    (text : String) (farm house : List ℕ) (allowance : ℕ) {room : ℕ} (out after : List ℕ) (r : Translated) → length out ≡ room
+    (text : String) (farm house : List ℕ) (allowance : ℕ) {room : ℕ} (out after : List ℕ) (r : Translation) → length out ≡ room
     → Translates (bytes text) farm house no_index 0 allowance out r after
     → (translated_answer r ≡ translated_answer (translated (bytes text) farm house no_index 0 allowance room))
     × (after ≡ left_by (translated (bytes text) farm house no_index 0 allowance room) (Traces.bytes (reading_of (bytes text) farm house 0)) out)
@@ -246,7 +245,7 @@ found_in_the_house r handed c p = (
 
 -- a row of a table and a room: the index's answer and what it leaves are the definition's at the room
 built_row :
-    (table : List ℕ) {room : ℕ} (out after : List ℕ) (r : Built) → length out ≡ room → Builds table out r after
+    (table : List ℕ) {room : ℕ} (out after : List ℕ) (r : Result Built NotBuilt) → length out ≡ room → Builds table out r after
     → (built_answer r ≡ built_answer (built table room)) × (after ≡ laid_by (built table room) (index_of table) out)
 unfolding index_after
 built_row table out after r long c = (

@@ -1,13 +1,13 @@
 -- What `convert` promises, over what its contract allows, in the paper's numbers of an answer.
-use Rattle.std.specs.Prelude.{◌≡◌, Bool, true, false, List, ◌++◌, ◌↔◌, ℕ, ◌+◌, ◌-◌, ◌/◌, ◌%◌, ◌≤◌, ◌<◌, length, take, drop}
+use Rattle.std.specs.Prelude.{◌≡◌, Bool, true, false, List, ◌++◌, ◌↔◌, ℕ, ◌+◌, ◌-◌, ◌/◌, ◌%◌, ◌≤◌, ◌<◌, length, take, drop, Result}
 use Rattle.paper.specs.Answers.{in_text, Answer, refusal, GrownWhole}
-use Rattle.paper.specs.Layings.{terminator, room_for, converted_answer}
+use Rattle.paper.specs.Layings.{terminator, room_for, Converted, converted_answer}
 use Rattle.paper.specs.Refusals.{no_room, unknown_call}
 use Rattle.forms.specs.Strings.{Form, used, string}
 use Rattle.forms.specs.Calls.{without_x, decimal_of, unknown, known, described}
-use Rattle.paper.specs.declared.layings.Converted.{Converted}
 use Rattle.reader.specs.Reading.{no_limit, read_number, read_place, read_value}
-use Rattle.reader.specs.declared.Reading.{Reading}
+use Rattle.paper.specs.declared.refusals.Refused.{Refused}
+use Rattle.reader.specs.declared.Number.{Number}
 use Rattle.promises.specs.Leads.{lead}
 use Rattle.promises.specs.Accepted.{is_converted}
 use Rattle.promises.specs.Allowed.{Converts, Reads}
@@ -93,7 +93,7 @@ SameCharacters =
     → (form : Form) × (described call ≡ known form) × (form.terminated ≡ true) × (string form value ≡ decimal_of value)
 
 -- Demand 2: a string without a sign or spaces is read, behind what tells its base, as the bits that the call uses, up to its end
-pub record ReadAs (n end : ℕ) (r : Reading) : Type 0 where
+pub record ReadAs (n end : ℕ) (r : Result Number Refused) : Type 0 where
   pub number : read_number r ≡ 0
   pub value : read_value r ≡ n
   pub place : read_place r ≡ end
@@ -103,7 +103,7 @@ ReadsBack =
     (call value : ℕ) (form : Form) (buf after : List ℕ) (r : Converted)
     → described call ≡ known form → form.signed ≡ false → form.spaced ≡ false
     → Converts call value buf r after → (converted_answer r).number ≡ 0
-    → (whole : Bool) (reading : Reading) → Reads (lead form.base ++ take (converted_answer r).place after) whole no_limit reading
+    → (whole : Bool) (reading : Result Number Refused) → Reads (lead form.base ++ take (converted_answer r).place after) whole no_limit reading
     → ReadAs (used form value) (length (lead form.base) + (converted_answer r).place) reading
 
 -- Demand 3: under every larger room an answer other than No room stays the same, with the same bytes, its free up by exactly the

@@ -2,9 +2,8 @@
 use Rattle.std.specs.Prelude.{◌≡◌, true, not, ◌&&◌, ◌||◌, ◌↔◌, ℕ, ◌+◌, ◌-◌, ◌%◌, ◌≤◌, ◌<◌, eqb, length, take, drop, get_or}
 use mathlib.Core.List.{List, ◌∷◌, ◌++◌, Memᴰ}
 use Rattle.paper.specs.Answers.{in_text, Answer, refusal, GrownWhole}
-use Rattle.paper.specs.Layings.{room_for, converted_answer}
+use Rattle.paper.specs.Layings.{room_for, Converted, converted_answer}
 use Rattle.paper.specs.Refusals.{no_room, over_length, bad_field, longest}
-use Rattle.paper.specs.declared.layings.Converted.{Converted}
 use Rattle.calendar.specs.Counting.{leap}
 use Rattle.calendar.specs.Dates.{Date, IsDate, day_number, date_of}
 use Rattle.calendar.specs.Moments.{day_of}

@@ -1,7 +1,10 @@
 -- That the public functions beside the eight operations and `look_up_value` have one answer too, each by its own contract as a caller learns it.
 -- Those have it in their pages. `filter`'s `run` has it not: its contract leaves open what was read.
-use Rattle.std.specs.Prelude.{◌≡◌, List, ℕ}
+-- Not repeated here are the contracts of `Bits`, `run_end` and `Inside`'s `byte`, which hold of every size or type, and those of the `From`s: equations too, but for
+-- `insert`, which says what each number is then.
+use Rattle.std.specs.Prelude.{◌≡◌, List, ℕ, Option}
 use Rattle.std.specs.Borrow.{Bor, MutBor}
+use Rattle.indexes.specs.Indexes.{Given, given_as}
 use Rattle.paper.proofs.allowance.cap.Reads as cap
 use Rattle.paper.proofs.bytes.byte.Reads as byte
 use Rattle.paper.proofs.bytes.among.Reads as among
@@ -12,6 +15,7 @@ use Rattle.paper.proofs.bytes.is_word_byte.Reads as is_word_byte
 use Rattle.paper.proofs.bytes.ByteKind.has.Reads as kind_has
 use Rattle.paper.proofs.bytes.skip.Reads as skip
 use Rattle.paper.proofs.faults.Fault.number.Reads as fault_number
+use Rattle.paper.proofs.refusals.Refusal.number.Reads as refusal_number
 use Rattle.paper.proofs.one_if.Reads as one_if
 use Rattle.paper.proofs.layings.put_if.Reads as put_if
 use Rattle.paper.proofs.layings.claim.Reads as claim
@@ -35,7 +39,8 @@ use Rattle.records.proofs.names.comes_before.Reads as comes_before
 use Rattle.records.proofs.kinds.Kind.number.Reads as kind_number
 use Rattle.records.proofs.integers.pattern_of.Reads as pattern_of
 use Rattle.variables.proofs.both.key_tables.Reads as key_tables
-use Rattle.variables.proofs.both.value_of.Reads as value_of
+use Rattle.variables.proofs.both.Tables.value_of.Reads as value_of
+use Rattle.variables.specs.declared.both.Tables.{Tables}
 use Rattle.variables.proofs.keys.find.Reads as find
 use Rattle.indexes.proofs.place_at.Reads as place_in_index
 use Rattle.indexes.proofs.search.Reads as search_index
@@ -59,11 +64,9 @@ use Rattle.runs.proofs.output.copy.Reads as copy
 use Rattle.references.proofs.resolve.Reads as resolve
 use Rattle.tokens.proofs.token_at.Reads as token_at
 use Rattle.parts.proofs.behind.operator_behind.Reads as operator_behind
-use Rattle.parts.proofs.behind.up_to.Reads as up_to
-use Rattle.parts.proofs.too_deep.Reads as too_deep_part
-use Rattle.parts.proofs.bad.Reads as bad_part
-use Rattle.parts.proofs.account_of.Reads as account_of
-use Rattle.parts.proofs.moved_to.Reads as moved_to
+use Rattle.parts.proofs.behind.end_behind.Reads as end_behind
+use Rattle.parts.proofs.refused.Reads as refused_part
+use Rattle.parts.proofs.Part.account.Reads as account_of
 use Rattle.parts.proofs.covered.Reads as covered_part
 use Rattle.parts.proofs.joined.Reads as joined_part
 use Rattle.leaves.proofs.number.Reads as leaf_number
@@ -89,6 +92,14 @@ pub record One {Lifetimes Arguments Answer After Given Seen : Type 0} (Learnt : 
 -- not, and the rest, as they are
 abbrev pub lent : {X A B : Type 0} → (A → B) → Bor X × A → X × B
 lent behind a = (a.0.now, behind a.1)
+
+-- an index that may be lent
+abbrev pub lent_index : {A B : Type 0} → (A → B) → Option (Bor (List ℕ)) × A → Given × B
+lent_index behind a = (given_as a.0, behind a.1)
+
+-- two tables that are lent as one: what each holds
+abbrev pub lent_tables : {A B : Type 0} → (A → B) → Bor Tables × A → List ℕ × (List ℕ × B)
+lent_tables behind a = (a.0.now.farm.now, (a.0.now.house.now, behind a.1))
 
 abbrev pub lent_out : {X A B : Type 0} → (A → B) → MutBor X × A → X × B
 lent_out behind a = (a.0.now, behind a.1)
@@ -118,6 +129,7 @@ pub record Determined : Type 0 where
   pub kind_has : One kind_has.Learnt rest answer_alone
   pub skip : One skip.Learnt (plain (lent rest)) answer_alone
   pub fault_number : One fault_number.Learnt rest answer_alone
+  pub refusal_number : One refusal_number.Learnt rest answer_alone
   pub one_if : One one_if.Learnt rest answer_alone
   pub put_if : One put_if.Learnt (plain (plain (plain (lent_out rest)))) (answer_and (λ (wanted, (byte, (at, (buf, _)))). buf))
   pub claim : One claim.Learnt (plain (plain (lent_out rest))) (answer_and (λ (characters, (terminated, (buf, _))). buf))
@@ -145,18 +157,18 @@ pub record Determined : Type 0 where
   pub kind_number : One kind_number.Learnt rest answer_alone
   pub pattern_of : One pattern_of.Learnt (lent rest) answer_alone
   -- variables: the answer of `value_of` is a part of a table too
-  pub key_tables : One key_tables.Learnt (lent (lent (lent_out rest))) (answer_and (λ (farm, (house, (keys, _))). keys))
-  pub value_of : One value_of.Learnt (lent (lent rest)) (λ r after. r.now)
-  pub find : One find.Learnt (lent (lent (lent (lent rest)))) answer_alone
+  pub key_tables : One key_tables.Learnt (lent_tables (lent_out rest)) (answer_and (λ (tables, (keys, _)). keys))
+  pub value_of : One value_of.Learnt (lent_tables rest) (λ r after. r.now)
+  pub find : One find.Learnt (lent_tables (lent (lent rest))) answer_alone
   -- indexes
   pub place_in_index : One place_in_index.Learnt (lent rest) answer_alone
   pub search_index : One search_index.Learnt (lent (lent (lent rest))) answer_alone
   -- lookups: the answer of `bytes_given` is a part of the index
   pub judge :
-      One judge.Learnt (lent (lent (lent (plain (lent_out rest)))))
-      (answer_and (λ (farm, (house, (index, (indexed, (keys, _))))). keys))
-  pub bytes_given : One bytes_given.Learnt (lent rest) (λ r after. r.now)
-  pub find_through : One find_through.Learnt (lent (lent (lent (lent (lent rest))))) answer_alone
+      One judge.Learnt (lent_tables (lent_index (lent_out rest)))
+      (answer_and (λ (tables, (index, (keys, _))). keys))
+  pub bytes_given : One bytes_given.Learnt (lent_index rest) (λ r after. r.now)
+  pub find_through : One find_through.Learnt (lent_tables (lent (lent (lent rest)))) answer_alone
   -- symbols
   pub symbol_at : One symbol_at.Learnt (lent rest) answer_alone
   pub open_text : One open_text.Learnt (lent rest) answer_alone
@@ -169,7 +181,7 @@ pub record Determined : Type 0 where
   pub put : One put.Learnt (plain (plain (lent_out rest))) (answer_and (λ (byte, (to, (out, _))). out))
   pub copy : One copy.Learnt (lent (plain (lent_out rest))) (answer_and (λ (given, (to, (out, _))). out))
   -- references
-  pub resolve : One resolve.Learnt (lent (lent (lent (lent (lent rest))))) answer_alone
+  pub resolve : One resolve.Learnt (lent (lent_tables (lent (lent rest)))) answer_alone
   -- arithmetic
   pub level : One level.Learnt rest answer_alone
   pub stands_alone : One stands_alone.Learnt rest answer_alone
@@ -180,16 +192,14 @@ pub record Determined : Type 0 where
   pub token_at : One token_at.Learnt (lent rest) answer_alone
   -- parts
   pub operator_behind : One operator_behind.Learnt (lent rest) answer_alone
-  pub up_to : One up_to.Learnt (lent rest) answer_alone
-  pub too_deep_part : One too_deep_part.Learnt rest answer_alone
-  pub bad_part : One bad_part.Learnt rest answer_alone
+  pub end_behind : One end_behind.Learnt (lent rest) answer_alone
+  pub refused_part : One refused_part.Learnt rest answer_alone
   pub account_of : One account_of.Learnt rest answer_alone
-  pub moved_to : One moved_to.Learnt rest answer_alone
   pub covered_part : One covered_part.Learnt rest answer_alone
   pub joined_part : One joined_part.Learnt rest answer_alone
   -- leaves
   pub leaf_number : One leaf_number.Learnt rest answer_alone
-  pub leaf_named : One leaf_named.Learnt (lent (lent (lent (lent rest)))) answer_alone
+  pub leaf_named : One leaf_named.Learnt (lent (lent_tables (lent rest))) answer_alone
   -- filter
   pub answer : One answer.Learnt (lent (lent_out rest)) (answer_and (λ (text, (out, _)). out))
   -- nosgoludd

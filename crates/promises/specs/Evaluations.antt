@@ -3,11 +3,10 @@
 use Rattle.std.specs.Prelude.{◌≡◌, true, ◌↔◌, ℕ, ◌≤◌, ◌<◌}
 use mathlib.Core.List.{List, Memᴰ}
 use Rattle.paper.specs.Answers.{in_text, counted_in}
-use Rattle.paper.specs.Refusals.{allowance_spent, over_length}
+use Rattle.paper.specs.Refusals.{refusal_number, allowance_spent, over_length}
 use Rattle.paper.specs.Traces.{Trace, run, run_number, run_place, Succeeds, look_ups, allowed}
 use Rattle.variables.specs.Judgements.{Judgement, good, long_text, bad_table, judgement}
-use Rattle.expressions.specs.Answers.{reading_of, value_in, evaluated_number, evaluated_counted, evaluated_place, evaluated_pattern, evaluate_numbers}
-use Rattle.expressions.specs.declared.Evaluated.{Evaluated}
+use Rattle.expressions.specs.Answers.{Evaluated, reading_of, value_in, evaluated_number, evaluated_counted, evaluated_place, evaluated_pattern, evaluate_numbers}
 use Rattle.promises.specs.Accepted.{is_evaluated}
 use Rattle.promises.specs.Allowed.{Evaluates}
 
@@ -39,7 +38,7 @@ pub record Placed (n in-what at : ℕ) (r : Evaluated) : Type 0 where
 abbrev pub JudgedAs : Judgement → Trace → ℕ → Evaluated → Type 0
 JudgedAs good reading allowance r = Placed (run_number (run reading (allowed allowance))) in_text (run_place (run reading (allowed allowance))) r
 JudgedAs long_text reading allowance r = Placed over_length in_text 0 r
-JudgedAs (bad_table number holder place) reading allowance r = Placed number (counted_in holder) place r
+JudgedAs (bad_table why holder place) reading allowance r = Placed (refusal_number why) (counted_in holder) place r
 
 abbrev pub ByReading : Type 0
 ByReading =

@@ -1,22 +1,20 @@
 -- The worked examples as one table, the paper's and some more, and what it is for a row to hold: of every answer that a contract allows.
-use Rattle.std.specs.Prelude.{◌≡◌, false, List, [], ◌∷◌, ◌++◌, ℕ, ℤ, pos, neg_ℤ, length, drop}
+use Rattle.std.specs.Prelude.{◌≡◌, false, List, [], ◌∷◌, ◌++◌, ℕ, ℤ, pos, neg_ℤ, length, drop, Result}
 use Prim.Native.String.{String}
 use Rattle.paper.specs.Answers.{in_text, in_house, in_farm, in_index, refusal}
 use Rattle.paper.specs.Refusals.{no_room, bad_base, too_big, bad_reference, unknown_name, too_deep, allowance_spent, bad_table, bad_expression, not_an_integer, over_length, bad_field, bad_index, code_over_255}
-use Rattle.paper.specs.Layings.{converted_answer}
-use Rattle.paper.specs.declared.layings.Converted.{Converted}
+use Rattle.paper.specs.Layings.{Converted, converted_answer}
 use Rattle.reader.specs.Reading.{no_limit, read_number, read_place, read_value}
-use Rattle.reader.specs.declared.Reading.{Reading}
+use Rattle.paper.specs.declared.refusals.Refused.{Refused}
+use Rattle.reader.specs.declared.Number.{Number}
 use Rattle.records.specs.Records.{string_kind, integer_kind}
 use Rattle.indexes.specs.Indexes.{no_index, given_index}
 use Rattle.indexes.specs.Buildings.{built_answer}
 use Rattle.indexes.specs.declared.building.Built.{Built}
-use Rattle.lookups.specs.Lookups.{found_number, found_counted, found_place, found_kind}
-use Rattle.lookups.specs.declared.Found.{Found}
-use Rattle.gs.specs.Translations.{translated_answer}
-use Rattle.gs.specs.declared.Translated.{Translated}
-use Rattle.expressions.specs.Answers.{evaluated_number, evaluated_counted, evaluated_place, evaluated_value}
-use Rattle.expressions.specs.declared.Evaluated.{Evaluated}
+use Rattle.lookups.specs.Lookups.{found_number, found_counted, found_place, found_kind, Found}
+use Rattle.gs.specs.Translations.{Translation, translated_answer}
+use Rattle.indexes.specs.declared.building.NotBuilt.{NotBuilt}
+use Rattle.expressions.specs.Answers.{evaluated_number, evaluated_counted, evaluated_place, evaluated_value, Evaluated}
 use Rattle.promises.specs.Allowed.{Converts, Dates, Reads, Builds, LooksUp, HandsBack, Translates, Evaluates}
 use Rattle.paper.specs.Texts.{bytes}
 
@@ -75,14 +73,14 @@ Holds (mistakes time format room number place need) =
     (buf after : List ℕ) (r : Converted) → length buf ≡ room → Dates time (bytes format) buf r after
     → (converted_answer r ≡ record { number = number; counted = in_text; place = place; need = need; free = room }) × (after ≡ buf)
 Holds (reads text value place) =
-    (r : Reading) → Reads (bytes text) false no_limit r → (read_number r ≡ 0) × (read_value r ≡ value) × (read_place r ≡ place)
+    (r : Result Number Refused) → Reads (bytes text) false no_limit r → (read_number r ≡ 0) × (read_value r ≡ value) × (read_place r ≡ place)
 Holds (refuses text number place) =
-    (r : Reading) → Reads (bytes text) false no_limit r → (read_number r ≡ number) × (read_place r ≡ place)
+    (r : Result Number Refused) → Reads (bytes text) false no_limit r → (read_number r ≡ number) × (read_place r ≡ place)
 Holds (translates text farm house allowance room given end free) =
-    (out after : List ℕ) (r : Translated) → length out ≡ room → Translates (bytes text) farm house no_index 0 allowance out r after
+    (out after : List ℕ) (r : Translation) → length out ≡ room → Translates (bytes text) farm house no_index 0 allowance out r after
     → (translated_answer r ≡ record { number = 0; counted = in_text; place = end; need = length given; free = free }) × (after ≡ given ++ drop (length given) out)
 Holds (stops text farm house allowance room number counted place) =
-    (out after : List ℕ) (r : Translated) → length out ≡ room → Translates (bytes text) farm house no_index 0 allowance out r after
+    (out after : List ℕ) (r : Translation) → length out ≡ room → Translates (bytes text) farm house no_index 0 allowance out r after
     → (translated_answer r ≡ refusal number counted place room) × (after ≡ out)
 Holds (evaluates text farm house allowance value end) =
     (r : Evaluated) → Evaluates (bytes text) farm house allowance r
@@ -94,16 +92,16 @@ Holds (finds name farm house counted place kind part) =
     (r : Found) (handed : List ℕ) → LooksUp farm house no_index (bytes name) r → HandsBack farm house no_index (bytes name) handed
     → (found_number r ≡ 0) × (found_counted r ≡ counted) × (found_place r ≡ place) × (found_kind r ≡ kind) × (handed ≡ part)
 Holds (indexes table room index free) =
-    (out after : List ℕ) (r : Built) → length out ≡ room → Builds table out r after
+    (out after : List ℕ) (r : Result Built NotBuilt) → length out ≡ room → Builds table out r after
     → (built_answer r ≡ record { number = 0; counted = in_text; place = 0; need = length index; free = free }) × (after ≡ index ++ drop (length index) out)
 Holds (spares table room need) =
-    (out after : List ℕ) (r : Built) → length out ≡ room → Builds table out r after
+    (out after : List ℕ) (r : Result Built NotBuilt) → length out ≡ room → Builds table out r after
     → (built_answer r ≡ record { number = no_room; counted = in_text; place = 0; need = need; free = room }) × (after ≡ out)
 Holds (through text house index allowance room given end free) =
-    (out after : List ℕ) (r : Translated) → length out ≡ room → Translates (bytes text) [] house (given_index index) 0 allowance out r after
+    (out after : List ℕ) (r : Translation) → length out ≡ room → Translates (bytes text) [] house (given_index index) 0 allowance out r after
     → (translated_answer r ≡ record { number = 0; counted = in_text; place = end; need = length given; free = free }) × (after ≡ given ++ drop (length given) out)
 Holds (misfits text house index allowance room name) =
-    (out after : List ℕ) (r : Translated) (f : Found) → length out ≡ room → Translates (bytes text) [] house (given_index index) 0 allowance out r after
+    (out after : List ℕ) (r : Translation) (f : Found) → length out ≡ room → Translates (bytes text) [] house (given_index index) 0 allowance out r after
     → LooksUp [] house (given_index index) (bytes name) f
     → (translated_answer r ≡ refusal bad_index in_index 0 room) × (after ≡ out)
     × (found_number f ≡ bad_index) × (found_counted f ≡ in_index) × (found_place f ≡ 0)

@@ -1,6 +1,6 @@
 -- What `build_index` promises, over what its contract allows: the order of names, the one arrangement of a table's records, and that an index
 -- as it was built fits.
-use Rattle.std.specs.Prelude.{◌≡◌, true, false, ◌↔◌, ℕ, suc, ◌+◌, ◌*◌, ◌≤◌, ◌<◌, length, get_or, take, drop}
+use Rattle.std.specs.Prelude.{◌≡◌, true, false, ◌↔◌, ℕ, suc, ◌+◌, ◌*◌, ◌≤◌, ◌<◌, length, get_or, take, drop, Result}
 use mathlib.Core.List.{List, ◌∷◌, ◌++◌, Memᴰ}
 use Rattle.paper.specs.Answers.{in_text, in_house, Answer, refusal, GrownWhole}
 use Rattle.paper.specs.Refusals.{no_room, bad_index}
@@ -10,10 +10,9 @@ use Rattle.indexes.specs.Indexes.{no_index, given_index, index_of, in_order, fit
 use Rattle.indexes.specs.Buildings.{built_answer, build_numbers}
 use Rattle.indexes.specs.inner.Halving.{halvings, nearest, searched}
 use Rattle.indexes.specs.declared.building.Built.{Built}
-use Rattle.lookups.specs.Lookups.{found_number}
-use Rattle.lookups.specs.declared.Found.{Found}
-use Rattle.gs.specs.Translations.{translated_answer}
-use Rattle.gs.specs.declared.Translated.{Translated}
+use Rattle.lookups.specs.Lookups.{found_number, Found}
+use Rattle.gs.specs.Translations.{Translation, translated_answer}
+use Rattle.indexes.specs.declared.building.NotBuilt.{NotBuilt}
 use Rattle.promises.specs.Accepted.{is_built}
 use Rattle.promises.specs.Allowed.{Builds, LooksUp, Translates}
 use Rattle.promises.specs.Ties.{given_at}
@@ -49,15 +48,15 @@ OneArrangement = (table : List ℕ) → check_number (checked table) ≡ 0 → A
 
 -- one answer and one content of the buffer
 abbrev pub OneAnswer : Type 0
-OneAnswer = (table out after after' : List ℕ) (r r' : Built) → Builds table out r after → Builds table out r' after' → (r ≡ r') × (after ≡ after')
+OneAnswer = (table out after after' : List ℕ) (r r' : Result Built NotBuilt) → Builds table out r after → Builds table out r' after' → (r ≡ r') × (after ≡ after')
 
 -- the number is 0 exactly in the case of an index
 abbrev pub Accepts : Type 0
-Accepts = (table out after : List ℕ) (r : Built) → Builds table out r after → ((built_answer r).number ≡ 0) ↔ (is_built r ≡ true)
+Accepts = (table out after : List ℕ) (r : Result Built NotBuilt) → Builds table out r after → ((built_answer r).number ≡ 0) ↔ (is_built r ≡ true)
 
 -- Demand 1: accepted, or one of the listed refusals
 abbrev pub Refusals : Type 0
-Refusals = (table out after : List ℕ) (r : Built) → Builds table out r after → Memᴰ (built_answer r).number build_numbers
+Refusals = (table out after : List ℕ) (r : Result Built NotBuilt) → Builds table out r after → Memᴰ (built_answer r).number build_numbers
 
 -- a table that is refused is refused as its check refuses it, counted in the house's table, with nothing changed; a good one needs two bytes
 -- for each record: the buffer lacks them, and nothing is changed, or the index stands at the start and the bytes behind it are kept
@@ -74,20 +73,20 @@ pub record Exactly (table out after : List ℕ) (a : Answer) : Type 0 where
       × (a.free + a.need ≡ length out) × (length (index_of table) ≡ a.need) × (after ≡ index_of table ++ drop a.need out)
 
 abbrev pub Exact : Type 0
-Exact = (table out after : List ℕ) (r : Built) → Builds table out r after → Exactly table out after (built_answer r)
+Exact = (table out after : List ℕ) (r : Result Built NotBuilt) → Builds table out r after → Exactly table out after (built_answer r)
 
 -- Demand 3: an answer other than No room stays the same in every larger room: the same number, place, what it is counted in, need and bytes,
 -- its free up by exactly the room added
 abbrev pub LargerRoom : Type 0
 LargerRoom =
-    (table : List ℕ) (more : ℕ) (out after out' after' : List ℕ) (r r' : Built) → length out' ≡ length out + more
+    (table : List ℕ) (more : ℕ) (out after out' after' : List ℕ) (r r' : Result Built NotBuilt) → length out' ≡ length out + more
     → Builds table out r after → Builds table out' r' after' → ((built_answer r).number ≡ no_room → ⊥)
     → GrownWhole after out' after' more (built_answer r) (built_answer r')
 
 -- The second ask: with the room that No room carries, and with any larger one, the index is built
 abbrev pub SecondAsk : Type 0
 SecondAsk =
-    (table out after out' after' : List ℕ) (r r' : Built) → Builds table out r after → (built_answer r).number ≡ no_room
+    (table out after out' after' : List ℕ) (r r' : Result Built NotBuilt) → Builds table out r after → (built_answer r).number ≡ no_room
     → (built_answer r).need ≤ length out' → Builds table out' r' after' → (built_answer r').number ≡ 0
 
 -- an index fits exactly when its bytes are those that building gives, so that a longer one with a right beginning does not
@@ -97,10 +96,10 @@ Fits = (table index : List ℕ) → (fits (given_index index) table ≡ true) �
 -- what was built is never refused by 20, in a look-up or in a translation
 abbrev pub BuiltFits : Type 0
 BuiltFits =
-    (farm house out after : List ℕ) (b : Built) → Builds house out b after → (built_answer b).number ≡ 0
+    (farm house out after : List ℕ) (b : Result Built NotBuilt) → Builds house out b after → (built_answer b).number ≡ 0
     → let given = given_index (take (built_answer b).need after) in
     ((name : List ℕ) (r : Found) → LooksUp farm house given name r → found_number r ≡ bad_index → ⊥)
-    × ((text : List ℕ) (flags allowance : ℕ) (buf left : List ℕ) (r : Translated) → Translates text farm house given flags allowance buf r left
+    × ((text : List ℕ) (flags allowance : ℕ) (buf left : List ℕ) (r : Translation) → Translates text farm house given flags allowance buf r left
     → (translated_answer r).number ≡ bad_index → ⊥)
 
 -- there is no index at `indexed` 0, whatever its bytes are, and then nothing has to fit; at every other number there is one

@@ -1,23 +1,23 @@
 -- What `check_table`, `look_up` and `look_up_value` promise, over what their contracts allow.
-use Rattle.std.specs.Prelude.{◌≡◌, true, false, ◌↔◌, ℕ, ◌+◌, ◌≤◌, ◌<◌, length, take, drop}
+use Rattle.std.specs.Prelude.{◌≡◌, true, false, ◌↔◌, ℕ, ◌+◌, ◌≤◌, ◌<◌, length, take, drop, Result}
 use mathlib.Core.List.{List, [], map, flatten, Memᴰ}
 use Rattle.paper.specs.Answers.{in_text, in_farm, in_index, counted_in}
 use Rattle.paper.specs.declared.Holder.{Holder}
-use Rattle.paper.specs.Refusals.{unknown_name, over_length, bad_index, longest}
+use Rattle.paper.specs.Refusals.{refusal_number, unknown_name, over_length, bad_index, longest}
+use Rattle.paper.specs.declared.refusals.BadTable.{BadTable}
+use Rattle.paper.specs.declared.refusals.Refusal.{Refusal}
 use Rattle.records.specs.Records.{Entry, record_bytes, same_name}
 use Rattle.variables.specs.Tables.{most, sound, checked, check_number, check_count, check_numbers, records_of}
 use Rattle.variables.specs.Holdings.{held_by}
 use Rattle.indexes.specs.Indexes.{Given, no_index, fits}
 use Rattle.variables.specs.Judgements.{bad_table, judgement}
-use Rattle.lookups.specs.Lookups.{found_number, found_counted, found_place, found_kind, found_start, found_length, look_up_numbers}
-use Rattle.variables.specs.declared.Checked.{Checked}
-use Rattle.lookups.specs.declared.Found.{Found}
+use Rattle.lookups.specs.Lookups.{Found, found_number, found_counted, found_place, found_kind, found_start, found_length, look_up_numbers}
 use Rattle.promises.specs.Accepted.{is_good, is_known}
 use Rattle.promises.specs.Allowed.{Checks, LooksUp, HandsBack}
 
 -- one answer each
 abbrev pub OneCheck : Type 0
-OneCheck = (table : List ℕ) (r r' : Checked) → Checks table r → Checks table r' → r ≡ r'
+OneCheck = (table : List ℕ) (r r' : Result ℕ BadTable) → Checks table r → Checks table r' → r ≡ r'
 
 abbrev pub OneFound : Type 0
 OneFound = (farm house : List ℕ) (given : Given) (name : List ℕ) (r r' : Found) → LooksUp farm house given name r → LooksUp farm house given name r' → r ≡ r'
@@ -27,25 +27,25 @@ OnePart = (farm house : List ℕ) (given : Given) (name part part' : List ℕ) �
 
 -- the number is 0 exactly in the case of a good table, and of a known name
 abbrev pub CheckAccepts : Type 0
-CheckAccepts = (table : List ℕ) (r : Checked) → Checks table r → (check_number r ≡ 0) ↔ (is_good r ≡ true)
+CheckAccepts = (table : List ℕ) (r : Result ℕ BadTable) → Checks table r → (check_number r ≡ 0) ↔ (is_good r ≡ true)
 
 abbrev pub LookUpAccepts : Type 0
 LookUpAccepts = (farm house : List ℕ) (given : Given) (name : List ℕ) (r : Found) → LooksUp farm house given name r → (found_number r ≡ 0) ↔ (is_known r ≡ true)
 
 -- Demand 1: good, or one of the listed refusals; found, or one of them or unknown
 abbrev pub CheckRefusals : Type 0
-CheckRefusals = (table : List ℕ) (r : Checked) → Checks table r → Memᴰ (check_number r) check_numbers
+CheckRefusals = (table : List ℕ) (r : Result ℕ BadTable) → Checks table r → Memᴰ (check_number r) check_numbers
 
 abbrev pub LookUpRefusals : Type 0
 LookUpRefusals = (farm house : List ℕ) (given : Given) (name : List ℕ) (r : Found) → LooksUp farm house given name r → Memᴰ (found_number r) look_up_numbers
 
 -- 18 exactly where the table is too long
 abbrev pub OverLength : Type 0
-OverLength = (table : List ℕ) (r : Checked) → Checks table r → (check_number r ≡ over_length) ↔ (longest < length table)
+OverLength = (table : List ℕ) (r : Result ℕ BadTable) → Checks table r → (check_number r ≡ over_length) ↔ (longest < length table)
 
 -- Demand 2: a good table is its records' bytes, one behind the other; the check says how many they are, 256 at most; each of them is
 -- sound, and their names are unequal
-pub record Records (table : List ℕ) (r : Checked) : Type 0 where
+pub record Records (table : List ℕ) (r : Result ℕ BadTable) : Type 0 where
   pub bytes : table ≡ flatten (map record_bytes (records_of table))
   pub count : length (records_of table) ≡ check_count r
   pub few : check_count r ≤ most
@@ -53,14 +53,14 @@ pub record Records (table : List ℕ) (r : Checked) : Type 0 where
   pub unequal : (e f : Entry) → Memᴰ e (records_of table) → Memᴰ f (records_of table) → same_name e.name f.name ≡ true → e ≡ f
 
 abbrev pub Good : Type 0
-Good = (table : List ℕ) (r : Checked) → Checks table r → check_number r ≡ 0 → Records table r
+Good = (table : List ℕ) (r : Result ℕ BadTable) → Checks table r → check_number r ≡ 0 → Records table r
 
 -- tables that are not good are refused as they are judged, with no text before them, and the answer says which, and where in it
 abbrev pub Judges : Type 0
 Judges =
-    (farm house : List ℕ) (given : Given) (name : List ℕ) (r : Found) (number : ℕ) (holder : Holder) (place : ℕ) → LooksUp farm house given name r
-    → judgement [] farm house ≡ bad_table number holder place
-    → (found_number r ≡ number) × (found_counted r ≡ counted_in holder) × (found_place r ≡ place)
+    (farm house : List ℕ) (given : Given) (name : List ℕ) (r : Found) (why : Refusal) (holder : Holder) (place : ℕ) → LooksUp farm house given name r
+    → judgement [] farm house ≡ bad_table why holder place
+    → (found_number r ≡ refusal_number why) × (found_counted r ≡ counted_in holder) × (found_place r ≡ place)
 
 -- a name is known exactly where both tables are good, the index fits and a record of either has it: an equal name in both is no fault
 pub record HasIt (farm house name : List ℕ) : Type 0 where

@@ -1,29 +1,30 @@
 -- That the promises are made of the contracts themselves: whatever a caller learns of a call is what `Allowed` has, and a call asks nothing of
 -- its arguments, so that every input is taken.
-use Rattle.std.specs.Prelude.{Bool, not, List, ◌++◌, ◌≡◌, ℕ, eqb, length, drop}
+use Rattle.std.specs.Prelude.{Bool, not, List, ◌++◌, ◌≡◌, ℕ, eqb, length, drop, Result, Option}
 use contract.Lifetimes.{Lfts}
 use Rattle.std.specs.Borrow.{Bor, MutBor}
 use Rattle.numbers.proofs.convert.Reads as convert
-use Rattle.paper.specs.declared.layings.Converted.{Converted}
 use Rattle.dates.proofs.convert_date.Reads as convert_date
 use Rattle.reader.proofs.read_unsigned.Reads as read_unsigned
-use Rattle.reader.specs.declared.Reading.{Reading}
+use Rattle.paper.specs.declared.refusals.Refused.{Refused}
+use Rattle.reader.specs.declared.Number.{Number}
 use Rattle.variables.proofs.check_table.Reads as check_table
+use Rattle.variables.specs.declared.both.Tables.{Tables}
 use Rattle.indexes.proofs.building.build_index.Reads as build_index
-use Rattle.indexes.specs.Indexes.{Given, given_by}
+use Rattle.indexes.specs.Indexes.{Given, given_by, given_as}
 use Rattle.indexes.specs.Buildings.{built_answer}
 use Rattle.indexes.specs.declared.building.Built.{Built}
+use Rattle.indexes.specs.declared.building.NotBuilt.{NotBuilt}
 use Rattle.lookups.proofs.look_up.Reads as look_up
 use Rattle.lookups.proofs.look_up_value.Reads as look_up_value
-use Rattle.variables.specs.declared.Checked.{Checked}
-use Rattle.lookups.specs.declared.Found.{Found}
+use Rattle.lookups.specs.Lookups.{Found}
+use Rattle.paper.specs.declared.refusals.BadTable.{BadTable}
 use Rattle.gs.proofs.translate.Reads as translate
-use Rattle.gs.specs.declared.Translated.{Translated}
 use Rattle.symbols.specs.declared.flags.Flags.{Flags}
 use Rattle.expressions.proofs.evaluate.Reads as evaluate
-use Rattle.expressions.specs.declared.Evaluated.{Evaluated}
-use Rattle.paper.specs.Layings.{converted_answer}
-use Rattle.gs.specs.Translations.{translated_answer}
+use Rattle.expressions.specs.Answers.{Evaluated}
+use Rattle.paper.specs.Layings.{Converted, converted_answer}
+use Rattle.gs.specs.Translations.{Translation, translated_answer}
 use Rattle.filter.proofs.answer.Reads as program
 use Rattle.filter.specs.Answers.{answer_to}
 use Rattle.nosgoludd.proofs.conversions.nos_convert.Reads as nos_convert
@@ -54,40 +55,41 @@ ConvertDate =
 
 abbrev pub ReadUnsigned : Type 0
 ReadUnsigned =
-    (κs : Lfts 1) (text : Bor (List ℕ)) (whole : Bool) (limit : ℕ) (r : Reading)
+    (κs : Lfts 1) (text : Bor (List ℕ)) (whole : Bool) (limit : ℕ) (r : Result Number Refused)
     → read_unsigned.Learnt κs (text, (whole, (limit, tt))) r (text, (whole, (limit, tt))) → Reads text.now whole limit r
 
 abbrev pub CheckTable : Type 0
-CheckTable = (κs : Lfts 1) (table : Bor (List ℕ)) (r : Checked) → check_table.Learnt κs (table, tt) r (table, tt) → Checks table.now r
+CheckTable = (κs : Lfts 1) (table : Bor (List ℕ)) (r : Result ℕ BadTable) → check_table.Learnt κs (table, tt) r (table, tt) → Checks table.now r
 
 abbrev pub BuildIndex : Type 0
 BuildIndex =
-    (κs : Lfts 2) (table : Bor (List ℕ)) (out after : MutBor (List ℕ)) (r : Built)
+    (κs : Lfts 2) (table : Bor (List ℕ)) (out after : MutBor (List ℕ)) (r : Result Built NotBuilt)
     → build_index.Learnt κs (table, (out, tt)) r (table, (after, tt)) → Builds table.now out.now r after.now
 
 abbrev pub LookUp : Type 0
 LookUp =
-    (κs : Lfts 3) (farm house index : Bor (List ℕ)) (indexed : Bool) (name : Bor (List ℕ)) (r : Found)
-    → look_up.Learnt κs (farm, (house, (index, (indexed, (name, tt))))) r (farm, (house, (index, (indexed, (name, tt)))))
-    → LooksUp farm.now house.now (given_by indexed index.now) name.now r
+    (κs : Lfts 4) (tables : Bor Tables) (index : Option (Bor (List ℕ))) (name : Bor (List ℕ)) (r : Found)
+    → look_up.Learnt κs (tables, (index, (name, tt))) r (tables, (index, (name, tt)))
+    → LooksUp tables.now.farm.now tables.now.house.now (given_as index) name.now r
 
 abbrev pub LookUpValue : Type 0
 LookUpValue =
-    (κs : Lfts 3) (farm house index : Bor (List ℕ)) (indexed : Bool) (name r : Bor (List ℕ))
-    → look_up_value.Learnt κs (farm, (house, (index, (indexed, (name, tt))))) r (farm, (house, (index, (indexed, (name, tt)))))
-    → HandsBack farm.now house.now (given_by indexed index.now) name.now r.now
+    (κs : Lfts 4) (tables : Bor Tables) (index : Option (Bor (List ℕ))) (name r : Bor (List ℕ))
+    → look_up_value.Learnt κs (tables, (index, (name, tt))) r (tables, (index, (name, tt)))
+    → HandsBack tables.now.farm.now tables.now.house.now (given_as index) name.now r.now
 
 abbrev pub Translate : Type 0
 Translate =
-    (κs : Lfts 4) (text farm house index : Bor (List ℕ)) (indexed : Bool) (flags : Flags) (allowance : ℕ) (out after : MutBor (List ℕ)) (r : Translated)
-    → translate.Learnt κs (text, (farm, (house, (index, (indexed, (flags, (allowance, (out, tt)))))))) r
-    (text, (farm, (house, (index, (indexed, (flags, (allowance, (after, tt))))))))
-    → Translates text.now farm.now house.now (given_by indexed index.now) flags.0 allowance out.now r after.now
+    (κs : Lfts 5) (text : Bor (List ℕ)) (tables : Bor Tables) (index : Option (Bor (List ℕ))) (flags : Flags) (allowance : ℕ) (out after : MutBor (List ℕ))
+    (r : Translation)
+    → translate.Learnt κs (text, (tables, (index, (flags, (allowance, (out, tt)))))) r (text, (tables, (index, (flags, (allowance, (after, tt))))))
+    → Translates text.now tables.now.farm.now tables.now.house.now (given_as index) flags.0 allowance out.now r after.now
 
 abbrev pub Evaluate : Type 0
 Evaluate =
-    (κs : Lfts 2) (text farm house : Bor (List ℕ)) (allowance : ℕ) (r : Evaluated)
-    → evaluate.Learnt κs (text, (farm, (house, (allowance, tt)))) r (text, (farm, (house, (allowance, tt)))) → Evaluates text.now farm.now house.now allowance r
+    (κs : Lfts 3) (text : Bor (List ℕ)) (tables : Bor Tables) (allowance : ℕ) (r : Evaluated)
+    → evaluate.Learnt κs (text, (tables, (allowance, tt))) r (text, (tables, (allowance, tt)))
+    → Evaluates text.now tables.now.farm.now tables.now.house.now allowance r
 
 -- The C face: what a caller learns is the fields of an answer that the operation's contract allows, and what it leaves
 pub record FaceConverts (call value : ℕ) (buf : List ℕ) (r : NosAnswer) (after : List ℕ) : Type 0 where
@@ -113,7 +115,7 @@ NosConvertDate =
 
 -- whole is off at 0 and on at every other number
 pub record FaceReads (text : List ℕ) (whole limit : ℕ) (r : NosNumber) : Type 0 where
-  pub answer : Reading
+  pub answer : Result Number Refused
   pub allowed : Reads text (not (eqb whole 0)) limit answer
   pub face : r ≡ reading_face answer
 
@@ -123,7 +125,7 @@ NosReadUnsigned =
     → nos_read_unsigned.Learnt κs (text, (whole, (limit, tt))) r (text, (whole, (limit, tt))) → FaceReads text.now whole limit r
 
 pub record FaceChecks (table : List ℕ) (r : NosChecked) : Type 0 where
-  pub answer : Checked
+  pub answer : Result ℕ BadTable
   pub allowed : Checks table answer
   pub face : r ≡ check_face answer
 
@@ -131,7 +133,7 @@ abbrev pub NosCheckTable : Type 0
 NosCheckTable = (κs : Lfts 1) (table : Bor (List ℕ)) (r : NosChecked) → nos_check_table.Learnt κs (table, tt) r (table, tt) → FaceChecks table.now r
 
 pub record FaceBuilds (table out : List ℕ) (r : NosAnswer) (after : List ℕ) : Type 0 where
-  pub answer : Built
+  pub answer : Result Built NotBuilt
   pub allowed : Builds table out answer after
   pub face : r ≡ answer_face (built_answer answer)
 
@@ -156,7 +158,7 @@ NosLookUp =
     → FaceLooksUp farm.now house.now (given_at indexed index.now) name.now r
 
 pub record FaceTranslates (text farm house : List ℕ) (given : Given) (flags allowance : ℕ) (out : List ℕ) (r : NosAnswer) (after : List ℕ) : Type 0 where
-  pub answer : Translated
+  pub answer : Translation
   pub allowed : Translates text farm house given flags allowance out answer after
   pub face : r ≡ answer_face (translated_answer answer)
 
@@ -191,13 +193,12 @@ pub record Any : Type 0 where
   pub read_unsigned : (κs : Lfts 1) (text : Bor (List ℕ)) (whole : Bool) (limit : ℕ) → read_unsigned.Asked κs (text, (whole, (limit, tt)))
   pub check_table : (κs : Lfts 1) (table : Bor (List ℕ)) → check_table.Asked κs (table, tt)
   pub build_index : (κs : Lfts 2) (table : Bor (List ℕ)) (out : MutBor (List ℕ)) → build_index.Asked κs (table, (out, tt))
-  pub look_up : (κs : Lfts 3) (farm house index : Bor (List ℕ)) (indexed : Bool) (name : Bor (List ℕ))
-      → look_up.Asked κs (farm, (house, (index, (indexed, (name, tt)))))
-  pub look_up_value : (κs : Lfts 3) (farm house index : Bor (List ℕ)) (indexed : Bool) (name : Bor (List ℕ))
-      → look_up_value.Asked κs (farm, (house, (index, (indexed, (name, tt)))))
-  pub translate : (κs : Lfts 4) (text farm house index : Bor (List ℕ)) (indexed : Bool) (flags : Flags) (allowance : ℕ) (out : MutBor (List ℕ))
-      → translate.Asked κs (text, (farm, (house, (index, (indexed, (flags, (allowance, (out, tt))))))))
-  pub evaluate : (κs : Lfts 2) (text farm house : Bor (List ℕ)) (allowance : ℕ) → evaluate.Asked κs (text, (farm, (house, (allowance, tt))))
+  pub look_up : (κs : Lfts 4) (tables : Bor Tables) (index : Option (Bor (List ℕ))) (name : Bor (List ℕ)) → look_up.Asked κs (tables, (index, (name, tt)))
+  pub look_up_value : (κs : Lfts 4) (tables : Bor Tables) (index : Option (Bor (List ℕ))) (name : Bor (List ℕ))
+      → look_up_value.Asked κs (tables, (index, (name, tt)))
+  pub translate : (κs : Lfts 5) (text : Bor (List ℕ)) (tables : Bor Tables) (index : Option (Bor (List ℕ))) (flags : Flags) (allowance : ℕ) (out : MutBor (List ℕ))
+      → translate.Asked κs (text, (tables, (index, (flags, (allowance, (out, tt))))))
+  pub evaluate : (κs : Lfts 3) (text : Bor (List ℕ)) (tables : Bor Tables) (allowance : ℕ) → evaluate.Asked κs (text, (tables, (allowance, tt)))
   pub nos_convert : (κs : Lfts 1) (call value : ℕ) (buf : MutBor (List ℕ)) → nos_convert.Asked κs (call, (value, (buf, tt)))
   pub nos_convert_date : (κs : Lfts 3) (time format : Bor (List ℕ)) (buf : MutBor (List ℕ)) → nos_convert_date.Asked κs (time, (format, (buf, tt)))
   pub nos_read_unsigned : (κs : Lfts 1) (text : Bor (List ℕ)) (whole limit : ℕ) → nos_read_unsigned.Asked κs (text, (whole, (limit, tt)))

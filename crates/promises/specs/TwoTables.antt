@@ -2,8 +2,8 @@
 -- spends.
 use Rattle.std.specs.Prelude.{◌≡◌, true, false, ◌↔◌, ℕ, suc, ◌≤◌, ◌<◌, length}
 use mathlib.Core.List.{List, [], Memᴰ}
-use Rattle.paper.specs.Refusals as Refusals
-use Rattle.paper.specs.Refusals.{over_length, longest}
+use Rattle.paper.specs.Refusals.{longest}
+use Rattle.paper.specs.declared.refusals.Refusal.TheVariants as Refusals
 use Rattle.paper.specs.Traces.{Trace, spends, enters, look_ups}
 use Rattle.paper.specs.declared.Holder.{Holder}
 use Rattle.paper.specs.declared.Holder.TheVariants.{Farm, House}
@@ -29,16 +29,16 @@ Short text farm house = (length text ≤ longest) × (length farm ≤ longest) �
 -- own; each exactly where nothing before it is found
 pub record Ordered (text farm house : List ℕ) : Type 0 where
   pub text_long : (judgement text farm house ≡ long_text) ↔ (longest < length text)
-  pub farm_long : (judgement text farm house ≡ bad_table over_length Farm 0) ↔ ((length text ≤ longest) × (longest < length farm))
+  pub farm_long : (judgement text farm house ≡ bad_table Refusals.OverLength Farm 0) ↔ ((length text ≤ longest) × (longest < length farm))
   pub house_long :
-      (judgement text farm house ≡ bad_table over_length House 0)
+      (judgement text farm house ≡ bad_table Refusals.OverLength House 0)
       ↔ ((length text ≤ longest) × (length farm ≤ longest) × (longest < length house))
   pub farm_bad :
-      (place : ℕ) → (judgement text farm house ≡ bad_table Refusals.bad_table Farm place)
-      ↔ (Short text farm house × (checked farm ≡ bad_table_at Refusals.bad_table place))
+      (place : ℕ) → (judgement text farm house ≡ bad_table Refusals.BadTable Farm place)
+      ↔ (Short text farm house × (checked farm ≡ bad_table_at Refusals.BadTable place))
   pub house_bad :
-      (place : ℕ) → (judgement text farm house ≡ bad_table Refusals.bad_table House place)
-      ↔ (Short text farm house × (check_number (checked farm) ≡ 0) × (checked house ≡ bad_table_at Refusals.bad_table place))
+      (place : ℕ) → (judgement text farm house ≡ bad_table Refusals.BadTable House place)
+      ↔ (Short text farm house × (check_number (checked farm) ≡ 0) × (checked house ≡ bad_table_at Refusals.BadTable place))
   pub both_good :
       (judgement text farm house ≡ good)
       ↔ (Short text farm house × (check_number (checked farm) ≡ 0) × (check_number (checked house) ≡ 0))

@@ -4,22 +4,22 @@ use mathlib.Core.List.Memᴰ.{head}
 use mathlib.Core.List.Memᴰ.{tail}
 use mathlib.Core.List.{List, Memᴰ}
 use mathlib.Core.Path.{refl}
-use Prim.Native.Nat.{ℕ, ◌+◌, ◌≤◌, ◌<◌}
+use Prim.Native.Nat.{ℕ, ◌+◌, ◌≤◌}
 use native.Mathlib.Omega.{arith}
 use borrow.Author.Tests.{ltb-false, eqb-true}
 use lib.Dec.{ltb, eqb}
 use lib.ListN.{length, get_or, drop}
 use Rattle.paper.specs.Refusals.{longest}
 use Rattle.paper.specs.Bytes.{space, spaces}
-use Rattle.reader.specs.declared.Reading.{Reading}
-use Rattle.reader.specs.declared.Reading.TheVariants.{Value, Refused}
-use Rattle.reader.specs.Reading.{read_number, read_place, read_value, numbers, run, worth, goes_on, judged, based, in_base, marked, numbered, reading}
+use Rattle.std.specs.Prelude.{Result}
+use Rattle.paper.specs.declared.refusals.Refused.{Refused}
+use Rattle.reader.specs.declared.Number.{Number}
+use Rattle.reader.specs.Reading.{read_number, read_place, read_value, numbers, run, goes_on, judged, based, in_base, marked, numbered, reading}
 use Rattle.paper.proofs.Choice.{either}
 use Rattle.paper.proofs.Runs.{inside, run_short}
 use Rattle.reader.proofs.Laws.{run_within}
 
-pub record Bounded (r : Reading) : Type 0 where
-  pub number : read_number r ≤ 255
+pub record Bounded (r : Result Number Refused) : Type 0 where
   pub place : read_place r ≤ longest
   pub value : read_value r ≤ 4294967295
   pub listed : Memᴰ (read_number r) numbers
@@ -30,14 +30,14 @@ module _ (text : List ℕ) (whole : Bool) (limit start : ℕ) (short : length te
       Bounded (judged text whole limit start first end value)
   unfolding judged
   judged_bounded first end value f e =
-      either Bounded (eqb end first) (λ _. record { number = omega arith; place = omega arith; value = omega arith; listed = tail (tail (tail (head refl))) })
+      either Bounded (eqb end first) (λ _. record { place = omega arith; value = omega arith; listed = tail (tail (tail (head refl))) })
       (λ _. either Bounded (ltb 4294967295 value)
-      (λ _. record { number = omega arith; place = omega arith; value = omega arith; listed = tail (tail (tail (tail (head refl)))) })
+      (λ _. record { place = omega arith; value = omega arith; listed = tail (tail (tail (tail (head refl)))) })
       (λ fits. either Bounded (goes_on text whole end)
-      (λ _. record { number = omega arith; place = omega arith; value = omega arith; listed = tail (tail (tail (tail (tail (head refl))))) })
+      (λ _. record { place = omega arith; value = omega arith; listed = tail (tail (tail (tail (tail (head refl))))) })
       (λ _. either Bounded (ltb limit value)
-      (λ _. record { number = omega arith; place = omega arith; value = omega arith; listed = tail (tail (tail (tail (tail (tail (head refl)))))) })
-      (λ _. record { number = omega arith; place = omega arith; value = omega (arith, ltb-false 4294967295 value fits); listed = head refl }))))
+      (λ _. record { place = omega arith; value = omega arith; listed = tail (tail (tail (tail (tail (tail (head refl)))))) })
+      (λ _. record { place = omega arith; value = omega (arith, ltb-false 4294967295 value fits); listed = head refl }))))
 
   based_bounded : (first base : ℕ) → first ≤ length text → Bounded (based text whole limit start first base)
   based_bounded first base f = judged_bounded first _ _ f (run_within base first text f)
@@ -46,7 +46,7 @@ module _ (text : List ℕ) (whole : Bool) (limit start : ℕ) (short : length te
   unfolding in_base
   in_base_bounded first base f =
       either Bounded (ltb base 2 || ltb 36 base)
-      (λ _. record { number = omega arith; place = omega arith; value = omega arith; listed = tail (tail (head refl)) }) (λ _. based_bounded first base f)
+      (λ _. record { place = omega arith; value = omega arith; listed = tail (tail (head refl)) }) (λ _. based_bounded first base f)
 
   numbered_bounded : Bounded (numbered text whole limit start)
   unfolding numbered
@@ -63,34 +63,5 @@ module _ (text : List ℕ) (whole : Bool) (limit start : ℕ) (short : length te
 pub reading_bounded : (text : List ℕ) (whole : Bool) (limit : ℕ) → Bounded (reading text whole limit)
 unfolding reading
 reading_bounded text whole limit =
-    either Bounded (ltb longest (length text)) (λ _. record { number = omega arith; place = omega arith; value = omega arith; listed = tail (head refl) })
+    either Bounded (ltb longest (length text)) (λ _. record { place = omega arith; value = omega arith; listed = tail (head refl) })
     (λ short. numbered_bounded text whole limit (spaces text) (ltb-false longest (length text) short) (run_short space text))
-
--- a refusal has a number
-abbrev pub Numbered : Reading → Type 0
-Numbered (Value n) = Unit {0}
-Numbered (Refused number at) = 0 < number
-
-module _ (text : List ℕ) (whole : Bool) (limit start : ℕ) where
-  judged_numbered : (first end value : ℕ) → Numbered (judged text whole limit start first end value)
-  unfolding judged
-  judged_numbered first end value =
-      either Numbered (eqb end first) (λ _. omega arith)
-      (λ _. either Numbered (ltb 4294967295 value) (λ _. omega arith)
-      (λ _. either Numbered (goes_on text whole end) (λ _. omega arith)
-      (λ _. either Numbered (ltb limit value) (λ _. omega arith) (λ _. tt))))
-
-  numbered_numbered : Numbered (numbered text whole limit start)
-  unfolding numbered in_base
-  numbered_numbered =
-      let lead = run 10 (drop start text) in
-      let mark = start + length lead in
-      either Numbered (eqb (get_or text start 0) 38) (λ _. judged_numbered _ _ _)
-      (λ _. either Numbered (marked text start mark)
-      (λ _. either Numbered (ltb (worth 10 0 lead) 2 || ltb 36 (worth 10 0 lead)) (λ _. omega arith) (λ _. judged_numbered _ _ _))
-      (λ _. judged_numbered _ _ _))
-
-pub reading_numbered : (text : List ℕ) (whole : Bool) (limit : ℕ) → Numbered (reading text whole limit)
-unfolding reading
-reading_numbered text whole limit =
-    either Numbered (ltb longest (length text)) (λ _. omega arith) (λ _. numbered_numbered text whole limit (spaces text))

@@ -1,7 +1,7 @@
 -- What the proofs share: the digits that stand in a text from a place on, and values that are cut.
-use mathlib.Core.Bool.{Bool}
+use mathlib.Core.Bool.{Bool, true, false, cond}
 use mathlib.Core.List.{List, [], ◌∷◌}
-use mathlib.Core.Path.{◌≡◌, ap}
+use mathlib.Core.Path.{◌≡◌, refl, ap}
 use Prim.Native.Nat.{ℕ, suc, ◌+◌, ◌*◌, ◌<◌, ◌≤◌}
 use native.Mathlib.Nat.{le-mul_of_pos_right, min-eq_left, min-eq_right}
 use native.Mathlib.Decide.{dec_le}
@@ -11,28 +11,41 @@ use borrow.Author.Tests.{lt-ltb, le-ltb}
 use lib.Dec.{ltb}
 use lib.ListN.{length, get_or, drop, length-drop, drop_of_length-le}
 use lib.Seq.{drop-cons}
+use Rattle.std.specs.Prelude.{Some, None}
 use Rattle.paper.proofs.Choice.{either}
 use Rattle.reader.specs.Reading.{digit, run, worth, judged, in_base}
-use Rattle.reader.specs.inner.Steps.{cut, DigitIn}
+use Rattle.reader.specs.inner.Steps.{cut, digit_in}
+
+-- what goes by the same test as an option is known by what the option is
+module _ {A : Type 0} where
+  where_none : (b : Bool) (x : ℕ) (a z : A) → cond b (Some x) None ≡ None → cond b a z ≡ z
+  where_none true x a z e = absurd (cc)
+  where_none false x a z e = refl
+
+  where_some : (b : Bool) (x : ℕ) (z : A) {d : ℕ} (f : ℕ → A) → cond b (Some x) None ≡ Some d → cond b (f x) z ≡ f d
+  where_some true x z f e = cc
+  where_some false x z f e = absurd (cc)
 
 module _ (text : List ℕ) (at base : ℕ) where
   pub run_end : length text ≤ at → run base (drop at text) ≡ []
   run_end h = rw (drop_of_length-le text h)
 
-  module _ {d : ℕ} (h : at < length text) (e : DigitIn base (digit (get_or text at 0)) d) where
-    pub run_none : base ≤ d → run base (drop at text) ≡ []
-    run_none l = rw (drop-cons text at 0, le-ltb (digit (get_or text at 0)) base (e.outside l))
+  module _ (h : at < length text) where
+    pub run_none : digit_in base (get_or text at 0) ≡ None → run base (drop at text) ≡ []
+    run_none e = rw (drop-cons text at 0) (where_none (ltb (digit (get_or text at 0)) base) _ _ _ e)
 
-    pub run_more : d < base → run base (drop at text) ≡ d ∷ run base (drop (at + 1) text)
-    run_more l = let same = e.inside l in rw (add-one, drop-cons text at 0, ← same, lt-ltb d base)
+    pub run_more : {d : ℕ} → digit_in base (get_or text at 0) ≡ Some d → run base (drop at text) ≡ d ∷ run base (drop (at + 1) text)
+    run_more e =
+        rw (add-one, drop-cons text at 0)
+        (where_some (ltb (digit (get_or text at 0)) base) _ _ (λ d. d ∷ run base (drop (suc at) text)) e)
 
 -- a place up to which only digits were passed: those from there on end where those from `first` on do
 pub record Passed (text : List ℕ) (first base at : ℕ) : Type 0 where
   pub same_end : first + length (run base (drop first text)) ≡ at + length (run base (drop at text))
 
 module _ {text : List ℕ} {first base at : ℕ} (p : Passed text first base at) where
-  pub one_passed : {d : ℕ} → at < length text → DigitIn base (digit (get_or text at 0)) d → d < base → Passed text first base (at + 1)
-  one_passed h e l = record { same_end = omega (arith, p.same_end, ap length (run_more text at base h e l)) }
+  pub one_passed : {d : ℕ} → at < length text → digit_in base (get_or text at 0) ≡ Some d → Passed text first base (at + 1)
+  one_passed h e = record { same_end = omega (arith, p.same_end, ap length (run_more text at base h e)) }
 
   pub all_passed : run base (drop at text) ≡ [] → at ≡ first + length (run base (drop first text))
   all_passed e = omega (arith, p.same_end, ap length e)

@@ -1,4 +1,3 @@
 -- The laws that several proofs cite, and the bounds of every answer.
-pub mod DigitBytes
 pub mod Laws
 pub mod Bounds

@@ -4,7 +4,7 @@ use mathlib.Core.Bool.{Bool, true, false, or-false, false≢true}
 use mathlib.Core.List.{List, [], ◌∷◌, map}
 use mathlib.Core.Logic.{◌↔◌}
 use mathlib.Core.Path.{◌≡◌, refl, ap, ap₂, sym, ◌∙◌}
-use Prim.Native.Nat.{ℕ, suc, ◌+◌, ◌<◌, ◌≤◌}
+use Prim.Native.Nat.{ℕ, suc, ◌+◌, ◌<◌, ◌≤◌, min}
 use native.Mathlib.Decide.{dec_lt}
 use native.Mathlib.Numerals.{add-one}
 use native.Mathlib.Omega.{arith}
@@ -120,16 +120,23 @@ not_before a b c p q = go (comes_before c a) refl where
 
 -- byte by byte: where the second name ends, where two bytes are alike, where they are not, and where the first name ends
 module _ (a b : List ℕ) (at : ℕ) where
-  pub beginning_first : at < length a → length b ≤ at → comes_before (drop at a) (drop at b) ≡ false
+  beginning_first : at < length a → length b ≤ at → comes_before (drop at a) (drop at b) ≡ false
   unfolding comes_before
   beginning_first h k = rw (drop-cons a at 0 h, drop_of_length-le b {i = at} k)
 
-  pub beginning_ends : length a ≤ at → at ≤ length b → at ≡ length a → comes_before (drop at a) (drop at b) ≡ ltb (length a) (length b)
+  beginning_ends : length a ≤ at → at ≤ length b → at ≡ length a → comes_before (drop at a) (drop at b) ≡ ltb (length a) (length b)
   unfolding comes_before
   beginning_ends h k e = go (dec_lt at (length b)) where
     go : Dec (at < length b) → comes_before (drop at a) (drop at b) ≡ ltb (length a) (length b)
     go (yes l) = rw (drop_of_length-le a {i = at} h, drop-cons b at 0 l, lt-ltb (length a) (length b) (omega arith))
     go (no l) = rw (drop_of_length-le a {i = at} h, drop_of_length-le b {i = at} (omega arith), le-ltb (length a) (length b) (omega arith))
+
+  -- where the shorter name ends
+  pub shorter_first : at ≡ min (length a) (length b) → comes_before (drop at a) (drop at b) ≡ ltb (length a) (length b)
+  shorter_first e = go (dec_lt (length b) (length a)) where
+    go : Dec (length b < length a) → comes_before (drop at a) (drop at b) ≡ ltb (length a) (length b)
+    go (yes l) = beginning_first (omega arith) (omega arith) ∙ sym (le-ltb (length a) (length b) (omega arith))
+    go (no l) = beginning_ends (omega arith) (omega arith) (omega arith)
 
   module _ (h : at < length a) (k : at < length b) where
     abbrev x : ℕ

@@ -23,14 +23,14 @@ impl Kind {
 }
 
 // The kind that a record's byte stands for. A good table has none above 2; one is read as a macro's.
-pub(crate) fn kind_of(byte: u8) -> Kind
-    ensures { result ≡ kind_of byte }
-{
-    if byte == 0 {
-        return Kind::Text;
+impl From<u8> for Kind {
+    ghost from_gives = { λ byte kind. kind ≡ kind_of byte };
+
+    fn from(byte: u8) -> Kind {
+        match byte {
+            0 => Kind::Text,
+            1 => Kind::Integer,
+            _ => Kind::Macro,
+        }
     }
-    if byte == 1 {
-        return Kind::Integer;
-    }
-    Kind::Macro
 }

@@ -2,7 +2,7 @@
 // records (`names`), their kinds (`kinds`), and the values of integers (`integers`).
 //
 // Any place can be asked for: past the slice's end zeros are read. A place is a `u32`, so that with a record's lengths it makes no sum
-// that a `usize` cannot hold.
+// that a `usize` cannot hold. A table and a place go side by side: `Determined` of `promises` has four of these functions, of both.
 #![tactic(auto)]
 
 ghost use Rattle.std.specs.Prelude.{◌≡◌, ◌≤◌, get_or, take, drop};
@@ -13,7 +13,7 @@ pub mod integers;
 pub mod kinds;
 pub mod names;
 
-use kinds::{Kind, kind_of};
+use kinds::Kind;
 use names::all_name_bytes;
 use paper::bytes::byte;
 use paper::{Holder, RecordPlace};
@@ -39,16 +39,11 @@ fn length_at(table: &[u8], at: usize) -> usize
 pub fn part<'a>(table: &'a [u8], start: usize, length: usize) -> &'a [u8]
     ensures { result.now ≡ take length (drop start table.now) }
 {
-    let end = table.len();
-    if end <= start {
-        return &table[end..];
-    }
-    if end - start <= length {
-        return &table[start..];
-    }
-    &table[start..start + length]
+    let rest = &table[start.min(table.len())..];
+    &rest[..length.min(rest.len())]
 }
 
+#[tactic(auto, unfolding(crate::specs::Records::name_at))]
 pub fn name_at<'a>(table: &'a [u8], place: u32) -> &'a [u8]
     ensures { result.now ≡ name_at table.now place }
 {
@@ -65,11 +60,12 @@ pub fn next_place(table: &[u8], place: u32) -> usize
 }
 
 // The variable at a place of a table that is the farm's, or the house's.
+#[tactic(auto, unfolding(crate::specs::Records::entry_at))]
 pub fn variable_at(holder: Holder, table: &[u8], place: u32) -> Variable
     ensures { result ≡ variable_at holder table.now (entry_at table.now place) }
 {
     let at = place as usize;
-    let kind = kind_of(byte(table, at + 2));
+    let kind = Kind::from(byte(table, at + 2));
     Variable {
         at: RecordPlace(at),
         holder,
@@ -79,25 +75,21 @@ pub fn variable_at(holder: Holder, table: &[u8], place: u32) -> Variable
     }
 }
 
-// The mark, and a kind that there is.
+// The mark, and a kind that there is. The byte is compared, and no Kind made of it: one above 2, which is no kind, is told apart here.
+#[tactic(auto, unfolding(crate::specs::Records::headed), using(std::proofs::lemmas::Bool::Decides::nat_tests))]
 fn is_headed(table: &[u8], place: u32) -> bool
     ensures { result ≡ headed table.now place }
 {
     let at = place as usize;
-    if byte(table, at) != 86 {
-        return false;
-    }
-    if byte(table, at + 1) != 82 {
-        return false;
-    }
-    byte(table, at + 2) <= 2
+    byte(table, at) == b'V' && byte(table, at + 1) == b'R' && byte(table, at + 2) <= 2
 }
 
-// An integer has four bytes; other kinds have any number of them.
+// An integer has four bytes; other kinds have any number of them. The kind is the record's byte still, which may stand for none.
+#[tactic(auto, unfolding(crate::specs::Records::fitting), using(std::proofs::lemmas::Bool::Decides::nat_tests))]
 fn fits_kind(kind: u8, length: usize) -> bool
     ensures { result ≡ fitting kind length }
 {
-    if kind == 1 { length == 4 } else { true }
+    kind != 1 || length == 4
 }
 
 // The lengths of the name and of the value, and an end inside the slice.
@@ -107,25 +99,14 @@ fn is_sized(table: &[u8], place: u32) -> bool
 {
     let at = place as usize;
     let name = length_at(table, at + 3);
-    if name < 1 {
-        return false;
-    }
-    if 32 < name {
-        return false;
-    }
-    if fits_kind(byte(table, at + 2), length_at(table, at + 4)) {
-        return next_place(table, place) <= table.len();
-    }
-    false
+    1 <= name
+        && name <= 32
+        && fits_kind(byte(table, at + 2), length_at(table, at + 4))
+        && next_place(table, place) <= table.len()
 }
 
 pub fn is_shaped(table: &[u8], place: u32) -> bool
     ensures { result ≡ shaped table.now place }
 {
-    if is_headed(table, place) {
-        if is_sized(table, place) {
-            return all_name_bytes(name_at(table, place));
-        }
-    }
-    false
+    is_headed(table, place) && is_sized(table, place) && all_name_bytes(name_at(table, place))
 }

@@ -1,13 +1,11 @@
 -- What a content stands for: a number, or what a look-up answers, whether that goes through the tables or by some keys and an index.
-use Rattle.std.specs.Prelude.{true, cond, List, ℕ, eqb}
-use Rattle.paper.specs.Refusals.{too_big, over_code}
+use Rattle.std.specs.Prelude.{true, cond, List, ℕ, eqb, Result, Ok, Err, Option, Some, None}
+use Rattle.paper.specs.Refusals.{too_big, over_code, refusal_number}
+use Rattle.paper.specs.declared.refusals.Refused.{Refused}
 use Rattle.reader.specs.Reading.{reading, no_limit}
-use Rattle.reader.specs.declared.Reading.{Reading}
-use Rattle.reader.specs.declared.Reading.TheVariants.{Value, Refused}
+use Rattle.reader.specs.declared.Number.{Number as Read}
 use Rattle.variables.specs.Holdings.{Holding, sought_in_both}
 use Rattle.variables.specs.inner.Keys.{match_as}
-use Rattle.variables.specs.declared.Match.{Match}
-use Rattle.variables.specs.declared.Match.TheVariants.{Record, Missing}
 use Rattle.lookups.specs.inner.Through.{sought_through}
 use Rattle.records.specs.declared.Variable.{Variable}
 use Rattle.records.specs.declared.kinds.Kind.{Kind}
@@ -21,14 +19,14 @@ kinded Kinds.Text v = Text v
 kinded Kinds.Integer v = Integer v
 kinded Kinds.Macro v = Macro v
 
-abbrev pub matched_as : Match → Referred
-matched_as (Record v) = kinded v.kind v
-matched_as Missing = Unknown
+abbrev pub matched_as : Option Variable → Referred
+matched_as (Some v) = kinded v.kind v
+matched_as None = Unknown
 
 -- a value becomes a byte, and over 255 it is refused; too big is refused; any other refusal makes it a name
-abbrev pub referred_as : Reading → Referred → Referred
-referred_as (Value n) named = cond (over_code n.value) CodeOver255 (Number n.value)
-referred_as (Refused number at) named = cond (eqb number too_big) TooBig named
+abbrev pub referred_as : Result Read Refused → Referred → Referred
+referred_as (Ok n) named = cond (over_code n.value) CodeOver255 (Number n.value)
+referred_as (Err r) named = cond (eqb (refusal_number r.why) too_big) TooBig named
 
 -- a content, where so much is found of it as a name
 abbrev pub referred_to : List ℕ → List ℕ → Holding → List ℕ → Referred

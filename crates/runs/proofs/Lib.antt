@@ -1,2 +1,3 @@
 -- What the proofs of runs share.
 pub mod StretchLaws
+pub mod Laid

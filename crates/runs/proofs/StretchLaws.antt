@@ -2,7 +2,8 @@
 use mathlib.Core.Path.{◌≡◌, subst}
 use mathlib.Core.Bool.{Bool, true, false}
 use mathlib.Core.List.{List}
-use Prim.Native.Nat.{ℕ, zero, suc, ◌+◌, ◌-◌, ◌≤◌, ◌<◌}
+use Prim.Native.Nat.{ℕ, zero, suc, ◌+◌, ◌-◌, ◌*◌, ◌≤◌, ◌<◌}
+use Rattle.std.proofs.Math.Nat.{mul-le-mul_left}
 use native.Mathlib.Decide.{dec_lt}
 use native.Mathlib.Omega.{arith}
 use lib.ListN.{length, get_or, drop}
@@ -65,3 +66,11 @@ module _ (test : ℕ → Bool) (text : List ℕ) where
             subst (λ k. test (get_or text k 0) ≡ true) there
             (subst (λ c. test c ≡ true) (get_or-drop start text (k - start) 0) (run_all test (drop start text) (k - start) (omega arith)));
       }
+
+-- one weight more fits a byte, where a block of such weights does
+pub weights_fit : (block sum weight i : ℕ) → block * sum ≤ 255 * i → i < block → block * weight < 256 → sum + weight < 256
+weights_fit block sum weight i sums inside fits = go (dec_lt (sum + weight) 256)
+  where
+    go : Dec (sum + weight < 256) → sum + weight < 256
+    go (yes h) = h
+    go (no h) = let over : 256 ≤ sum + weight = omega (arith, h) in absurd (omega (arith, mul-le-mul_left block over))

@@ -2,7 +2,7 @@
 ghost use Rattle.std.specs.Prelude.{◌≡◌, [], ◌∷◌};
 ghost use Rattle.runs.specs.Output.{laid_at};
 
-// One byte at a place, where that lies inside.
+// One byte at a place, where that lies inside. `Determined` of `promises` has this one (`put`) and `paper`'s with a flag (`put_if`).
 pub fn put(byte: u8, to: usize, out: &mut [u8])
     ensures { out.new ≡ laid_at out.old to (byte ∷ []) }
 {
@@ -11,20 +11,12 @@ pub fn put(byte: u8, to: usize, out: &mut [u8])
     }
 }
 
-// Bytes from a place on, where all of them fit: then the loop has no test in it.
+// Bytes from a place on, where all of them fit.
+#[tactic(auto, using(crate::proofs::Laid::copied))]
 pub fn copy(from: &[u8], to: usize, out: &mut [u8])
     ensures { out.new ≡ laid_at out.old to «from».now }
 {
-    let room = out.len();
-    if room < to {
-        return;
-    }
-    if room - to < from.len() {
-        return;
-    }
-    let mut i = 0;
-    while i < from.len() {
-        out[to + i] = from[i];
-        i += 1;
+    if to <= out.len() && from.len() <= out.len() - to {
+        out[to..to + from.len()].copy_from_slice(from);
     }
 }

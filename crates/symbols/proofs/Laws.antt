@@ -2,7 +2,8 @@
 use mathlib.Core.Bool.{Bool, true, false, cond, ◌||◌, and-false, and-eq-true_iff}
 use mathlib.Core.List.{List}
 use mathlib.Core.Path.{◌≡◌, refl, ap}
-use Prim.Native.Nat.{ℕ, ◌+◌, ◌<◌}
+use Prim.Native.Nat.{ℕ, ◌+◌}
+use Rattle.std.specs.Prelude.{Some}
 use native.Mathlib.Omega.{arith}
 use borrow.Author.Tests.{ltb-true, eqb-false, not-true, ne_eqb}
 use lib.Dec.{ltb, eqb}
@@ -21,9 +22,9 @@ left_false false b e = refl
 left_false true b e = e
 
 -- the zero past the end and "!" have no code
-pub uncoded : {c : ℕ} → code c < 256 → (c ≡ 0 → ⊥) × (c ≡ 33 → ⊥)
+pub uncoded : {c value : ℕ} → code c ≡ Some value → (c ≡ 0 → ⊥) × (c ≡ 33 → ⊥)
 unfolding code punctuation
-uncoded h = (λ e. omega (arith, ap code e), λ e. omega (arith, ap code e))
+uncoded h = (λ e. cc (ap code e), λ e. cc (ap code e))
 
 -- the tests of `symbol_at` in a row
 abbrev pub tested : List ℕ → ℕ → Mode → ℕ → Symbol

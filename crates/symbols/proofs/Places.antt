@@ -4,9 +4,11 @@ use mathlib.Core.List.{List}
 use mathlib.Core.Path.{◌≡◌, refl, sym, subst, ◌∙◌}
 use Prim.Native.Nat.{ℕ, ◌+◌, ◌<◌, ◌≤◌, max}
 use native.Mathlib.Omega.{arith}
-use borrow.Author.Tests.{ltb-true, leb-false, eqb-true}
-use lib.Dec.{ltb, leb, eqb}
+use borrow.Author.Tests.{ltb-true, eqb-true}
+use lib.Dec.{ltb, eqb}
 use lib.ListN.{length, get_or, drop}
+use Rattle.std.specs.Prelude.{Option, Some, None}
+use Rattle.std.specs.Option.{option_map}
 use Rattle.paper.specs.Bytes.{run_of, space, spaces, ends, name_byte}
 use Rattle.paper.specs.Traces.{fault_number}
 use Rattle.paper.specs.declared.faults.Fault.TheVariants.{BadCode}
@@ -18,7 +20,7 @@ use Rattle.symbols.specs.declared.forms.Symbol.{Symbol}
 use Rattle.symbols.specs.declared.forms.Symbol.TheVariants.{End, Byte, Reference, Faulty}
 use Rattle.symbols.specs.Flags.{space_ends, bar_plain}
 use Rattle.symbols.specs.inner.SymbolSteps.{at_end, other}
-use Rattle.symbols.specs.Symbols.{code, coded, topped_code, ending_space, topped_symbol, barred, referred, closed, active, quoted_other, symbol_at, quote_opens, first_at, mode_of, faulty}
+use Rattle.symbols.specs.Symbols.{code, coded, topped, topped_code, ending_space, topped_symbol, barred, referred, closed, active, quoted_other, symbol_at, quote_opens, first_at, mode_of, faulty}
 use Rattle.symbols.proofs.Laws.{left_false, uncoded, symbol_tested}
 
 -- in a text of so many bytes that is read in a mode, for a symbol at a place of it
@@ -67,24 +69,19 @@ module _ (text : List ℕ) (flags : ℕ) (mode : Mode) (at : ℕ) (a : at ≤ le
 
   coded_stands : S (coded (code (get_or text (at + 1) 0)) at (at + 2))
   unfolding coded
-  coded_stands =
-      let c = get_or text (at + 1) 0 in
-      either S (ltb (code c) 256)
-      (λ few.
-      let l = ltb-true (code c) 256 few in
-      let n = (uncoded l).0 in
-      omega (arith, inside text (at + 1) (omega arith)))
-      (λ _. bad)
+  coded_stands = go (code (get_or text (at + 1) 0)) refl
+    where
+      go : (value : Option ℕ) → code (get_or text (at + 1) 0) ≡ value → S (coded value at (at + 2))
+      go (Some value) e = let n = (uncoded e).0 in omega (arith, inside text (at + 1) (omega arith))
+      go None e = bad
 
   topped_code_stands : S (topped_code text at)
-  unfolding topped_code
-  topped_code_stands =
-      let c = get_or text (at + 3) 0 in
-      either S (eqb c 33 || leb 256 (code c)) (λ _. bad)
-      (λ e.
-      let l = leb-false 256 (code c) (right_false (eqb c 33) _ e) in
-      let n = (uncoded l).0 in
-      omega (arith, inside text (at + 3) (omega arith)))
+  unfolding coded topped_code
+  topped_code_stands = either S (eqb (get_or text (at + 3) 0) 33) (λ _. bad) (λ _. go (code (get_or text (at + 3) 0)) refl)
+    where
+      go : (value : Option ℕ) → code (get_or text (at + 3) 0) ≡ value → S (coded (option_map topped value) at (at + 4))
+      go (Some value) e = let n = (uncoded e).0 in omega (arith, inside text (at + 3) (omega arith))
+      go None e = bad
 
   topped_stands : S (topped_symbol text flags mode at)
   unfolding topped_symbol

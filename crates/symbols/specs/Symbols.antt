@@ -1,6 +1,7 @@
 -- One symbol of a text: where the text ends, a byte, a reference, or a fault. Past the slice's end stands a zero, which ends the text
 -- as the slice's end does.
-use Rattle.std.specs.Prelude.{Bool, false, cond, not, ◌&&◌, ◌||◌, List, ℕ, ◌+◌, ◌-◌, ltb, leb, eqb, get_or, drop}
+use Rattle.std.specs.Prelude.{Bool, false, cond, not, ◌&&◌, ◌||◌, Option, Some, None, List, ℕ, ◌+◌, ◌-◌, ltb, eqb, get_or, drop}
+use Rattle.std.specs.Option.{option_map}
 use Rattle.paper.specs.Bytes.{run_of, spaces, among, ends, name_byte}
 use Rattle.paper.specs.declared.faults.Fault.{Fault}
 use Rattle.paper.specs.declared.faults.Fault.TheVariants.{BadCode, BadString, BadReference}
@@ -10,27 +11,28 @@ use Rattle.symbols.specs.declared.forms.Mode.TheVariants.{Plain, Quoted}
 use Rattle.symbols.specs.declared.forms.Symbol.{Symbol}
 use Rattle.symbols.specs.declared.forms.Symbol.TheVariants.{End, Byte, Reference, Faulty}
 
--- the code behind "|", 256 for none. "@" is 0; letters 1 to 26; "[" "{" 27; "\" 28; "]" "}" 29; "^" "~" 30; "_" "'" 31; "?" 127; "|", "<"
+-- the code behind "|", if it is one. "@" is 0; letters 1 to 26; "[" "{" 27; "\" 28; "]" "}" 29; "^" "~" 30; "_" "'" 31; "?" 127; "|", "<"
 -- and the quote stand for themselves
-unfoldable pub punctuation : ℕ → ℕ
+unfoldable pub punctuation : ℕ → Option ℕ
 punctuation c =
-    cond (eqb c 91 || eqb c 123) 27
-    (cond (eqb c 92) 28
-    (cond (eqb c 93 || eqb c 125) 29
-    (cond (eqb c 94 || eqb c 126) 30
-    (cond (eqb c 95 || eqb c 39) 31
-    (cond (eqb c 63) 127
-    (cond (eqb c 124 || (eqb c 60 || eqb c 34)) c 256))))))
+    cond (eqb c 91 || eqb c 123) (Some 27)
+    (cond (eqb c 92) (Some 28)
+    (cond (eqb c 93 || eqb c 125) (Some 29)
+    (cond (eqb c 94 || eqb c 126) (Some 30)
+    (cond (eqb c 95 || eqb c 39) (Some 31)
+    (cond (eqb c 63) (Some 127)
+    (cond (eqb c 124 || (eqb c 60 || eqb c 34)) (Some c) None))))))
 
-unfoldable pub code : ℕ → ℕ
-code c = cond (among 64 90 c) (c - 64) (cond (among 97 122 c) (c - 96) (punctuation c))
+unfoldable pub code : ℕ → Option ℕ
+code c = cond (among 64 90 c) (Some (c - 64)) (cond (among 97 122 c) (Some (c - 96)) (punctuation c))
 
 abbrev pub faulty : Fault → ℕ → Symbol
 faulty fault place = Faulty fault (record { 0 = place })
 
 -- what a code makes: its byte, and the place behind it
-unfoldable pub coded : ℕ → ℕ → ℕ → Symbol
-coded value at next = cond (ltb value 256) (Byte value next) (faulty BadCode at)
+unfoldable pub coded : Option ℕ → ℕ → ℕ → Symbol
+coded (Some value) at next = Byte value next
+coded None at next = faulty BadCode at
 
 -- "|!" sets the top bit of the next character
 abbrev pub topped : ℕ → ℕ
@@ -40,7 +42,8 @@ topped c = cond (ltb c 128) (c + 128) c
 unfoldable pub topped_code : List ℕ → ℕ → Symbol
 topped_code text at =
     let c = get_or text (at + 3) 0 in
-    cond (eqb c 33 || leb 256 (code c)) (faulty BadCode at) (Byte (topped (code c)) (at + 4))
+    let made = coded (option_map topped (code c)) at (at + 4) in
+    cond (eqb c 33) (faulty BadCode at) made
 
 -- a space that ends the text
 abbrev pub ending_space : ℕ → Mode → ℕ → Bool

@@ -1,55 +1,56 @@
 // The codes behind "|".
-ghost use Rattle.std.specs.Prelude.{◌≡◌, ◌≤◌, length};
+ghost use Rattle.std.specs.Prelude.{◌≡◌};
 ghost use Rattle.symbols.specs.inner.SymbolSteps.{bare};
 ghost use Rattle.symbols.specs.Symbols.{punctuation, code, coded, topped, topped_code, topped_symbol, barred};
 
 use crate::bytes::is_ending_space;
 use crate::flags::Flags;
 use crate::forms::{Mode, Symbol, faulty};
-use paper::bytes::{among, byte, is_end};
+use paper::bytes::{among, is_end};
 use paper::faults::Fault;
+use paper::inside::Inside;
 
-// What a code that is no letter stands for; 256 where it is none.
+// What a code that is no letter stands for, if it is one.
 #[tactic(auto, unfolding(crate::specs::Symbols::punctuation))]
-fn punctuation(c: u8) -> u16
+fn punctuation(c: u8) -> Option<u8>
     ensures { result ≡ punctuation c }
 {
     match c {
-        b'[' | b'{' => 27,
-        b'\\' => 28,
-        b']' | b'}' => 29,
-        b'^' | b'~' => 30,
-        b'_' | b'\'' => 31,
-        b'?' => 127,
-        b'|' | b'<' | b'"' => c as u16,
-        _ => 256,
+        b'[' | b'{' => Some(27),
+        b'\\' => Some(28),
+        b']' | b'}' => Some(29),
+        b'^' | b'~' => Some(30),
+        b'_' | b'\'' => Some(31),
+        b'?' => Some(127),
+        b'|' | b'<' | b'"' => Some(c),
+        _ => None,
     }
 }
 
 // From "@" up to "_" every byte is 64 over its code, so that the marks among them need no test of their own: the function is then small
 // enough to be compiled into both of its callers.
 #[tactic(auto, unfolding(crate::specs::Symbols::code, crate::specs::Symbols::punctuation))]
-fn code(c: u8) -> u16
+fn code(c: u8) -> Option<u8>
     ensures { result ≡ code c }
 {
     if among(b'@', b'_', c) {
-        return c as u16 - 64;
+        return Some(c - 64);
     }
     if among(b'a', b'z', c) {
-        return c as u16 - 96;
+        return Some(c - 96);
     }
     punctuation(c)
 }
 
 // What a code makes: its byte, or the fault of a symbol that stands at `at`.
 #[tactic(auto, unfolding(crate::specs::Symbols::coded))]
-fn coded(value: u16, at: usize, next: usize) -> Symbol
+fn coded(value: Option<u8>, at: usize, next: usize) -> Symbol
     ensures { result ≡ coded value at next }
 {
-    if value < 256 {
-        return Symbol::Byte(value as u8, next);
+    match value {
+        Some(c) => Symbol::Byte(c, next),
+        None => faulty(Fault::BadCode, at),
     }
-    faulty(Fault::BadCode, at)
 }
 
 fn topped(c: u8) -> u8
@@ -59,16 +60,12 @@ fn topped(c: u8) -> u8
 }
 
 // Behind "|!|": a code, and "!" has none.
-#[tactic(auto, using(crate::proofs::Laws::uncoded), unfolding(crate::specs::Symbols::topped_code))]
-fn topped_code(text: &[u8], at: usize) -> Symbol
-    requires { at ≤ length text.now }
-    ensures { result ≡ topped_code text.now at }
+#[tactic(auto, unfolding(crate::specs::Symbols::topped_code, crate::specs::Symbols::code, crate::specs::Symbols::punctuation, crate::specs::Symbols::coded))]
+fn topped_code(here: &Inside) -> Symbol
+    ensures { result ≡ topped_code here.now.text.now here.now.at }
 {
-    let value = code(byte(text, at + 3));
-    if value < 256 {
-        return Symbol::Byte(topped(value as u8), at + 4);
-    }
-    faulty(Fault::BadCode, at)
+    let value = code(here.byte(3));
+    coded(value.map(topped), here.at, here.at + 4)
 }
 
 // Whether no top bit can be set on a byte.
@@ -80,29 +77,27 @@ fn is_bare(flags: Flags, mode: Mode, c: u8) -> bool
 
 // Behind "|!": a code, or an ordinary byte.
 #[tactic(auto, unfolding(crate::specs::Symbols::topped_symbol))]
-fn topped_symbol(text: &[u8], flags: Flags, mode: Mode, at: usize) -> Symbol
-    requires { at ≤ length text.now }
-    ensures { result ≡ topped_symbol text.now flags.0 mode at }
+fn topped_symbol(here: &Inside, flags: Flags, mode: Mode) -> Symbol
+    ensures { result ≡ topped_symbol here.now.text.now flags.0 mode here.now.at }
 {
-    let c = byte(text, at + 2);
+    let c = here.byte(2);
     if is_bare(flags, mode, c) {
-        return faulty(Fault::BadCode, at);
+        return faulty(Fault::BadCode, here.at);
     }
     if c == b'|' {
-        return topped_code(text, at);
+        return topped_code(here);
     }
-    Symbol::Byte(topped(c), at + 3)
+    Symbol::Byte(topped(c), here.at + 3)
 }
 
-// The symbol of a "|" that stands at `at`.
+// The symbol of a "|" that stands here.
 #[tactic(auto, unfolding(crate::specs::Symbols::barred))]
-pub(crate) fn barred(text: &[u8], flags: Flags, mode: Mode, at: usize) -> Symbol
-    requires { at ≤ length text.now }
-    ensures { result ≡ barred text.now flags.0 mode at }
+pub(crate) fn barred(here: &Inside, flags: Flags, mode: Mode) -> Symbol
+    ensures { result ≡ barred here.now.text.now flags.0 mode here.now.at }
 {
-    let c = byte(text, at + 1);
+    let c = here.byte(1);
     if c == b'!' {
-        return topped_symbol(text, flags, mode, at);
+        return topped_symbol(here, flags, mode);
     }
-    coded(code(c), at, at + 2)
+    coded(code(c), here.at, here.at + 2)
 }

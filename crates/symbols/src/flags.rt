@@ -13,6 +13,7 @@ impl Flags {
     // Bit 31: quotes are ordinary.
     pub const QUOTE_PLAIN: u32 = 0x8000_0000;
 
+    // `of` and `none` stand in the place of From and Default: the theorem `Determined` of promises is about these two functions.
     pub fn of(word: u32) -> Self
         ensures { result.0 ≡ word }
     {
@@ -29,9 +30,6 @@ impl Flags {
     pub fn has(self, bit: u32) -> bool
         ensures { result ≡ has self.0 bit }
     {
-        if bit == 0 {
-            return false;
-        }
-        self.0 / bit % 2 == 1
+        bit != 0 && self.0 / bit % 2 == 1
     }
 }

@@ -5,13 +5,16 @@ ghost use Rattle.symbols.specs.Symbols.{faulty};
 use paper::TextPlace;
 use paper::faults::Fault;
 
-// How a text is read: as it stands, or as a quoted string whose open quote stands at a place.
+// How a text is read: as it stands, or as a quoted string whose open quote stands at a place. In an Option of a place the names of both would
+// be lost, and nothing be shorter.
 #[derive(Clone, Copy)]
 pub enum Mode {
     Plain,
     Quoted(TextPlace),
 }
 
+// A fault is a symbol and no Err: the one reader meets all four in one match, and in a Result each function of this crate would wrap the
+// other three in Ok.
 #[derive(Clone, Copy)]
 pub enum Symbol {
     // The text ends here.

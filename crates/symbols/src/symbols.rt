@@ -1,5 +1,5 @@
 // One symbol of a text: where the text ends, a byte, a reference, or a fault.
-ghost use Rattle.std.specs.Prelude.{◌≡◌, ◌≤◌, length};
+ghost use Rattle.std.specs.Prelude.{◌≡◌};
 ghost use Rattle.symbols.specs.inner.SymbolSteps.{ended_at, at_end, other};
 ghost use Rattle.symbols.specs.Symbols.{referred, closed, quoted_other, symbol_at, first_at, mode_of};
 
@@ -10,6 +10,7 @@ use crate::forms::{Mode, Symbol, faulty};
 use paper::TextPlace;
 use paper::bytes::{ByteKind, byte, is_end, skip};
 use paper::faults::Fault;
+use paper::inside::Inside;
 
 // Where the first symbol stands, and how the text is read.
 #[derive(Clone, Copy)]
@@ -18,25 +19,26 @@ pub struct Opening {
     pub mode: Mode,
 }
 
-// The symbol of a "<" that stands at `at`.
+// Flags and mode go side by side: `Determined` of `promises` has two public functions of both, and a mode is known once a text is open.
+
+// The symbol of a "<" that stands here.
 #[tactic(auto, unfolding(crate::specs::Symbols::referred))]
-fn referred(text: &[u8], at: usize) -> Symbol
-    requires { at ≤ length text.now }
-    ensures { result ≡ referred text.now at }
+fn referred(here: &Inside) -> Symbol
+    ensures { result ≡ referred here.now.text.now here.now.at }
 {
-    let start = at + 1;
-    let end = skip(ByteKind::Name, text, start);
+    let start = here.at + 1;
+    let end = skip(ByteKind::Name, here.text, start);
     if end == start {
-        return faulty(Fault::BadReference, at);
+        return faulty(Fault::BadReference, here.at);
     }
-    if byte(text, end) == b'>' {
+    if byte(here.text, end) == b'>' {
         return Symbol::Reference {
             start,
             end,
             next: end + 1,
         };
     }
-    faulty(Fault::BadReference, at)
+    faulty(Fault::BadReference, here.at)
 }
 
 // The end of a quoted string at a place, or the fault of one that goes on there.
@@ -64,18 +66,17 @@ fn closed(text: &[u8], flags: Flags, behind: usize) -> Symbol
 
 // In a quoted string, a byte that is no end and starts neither a code nor a reference.
 #[tactic(auto, unfolding(crate::specs::Symbols::quoted_other))]
-fn quoted_other(text: &[u8], flags: Flags, at: usize) -> Symbol
-    requires { at ≤ length text.now }
-    ensures { result ≡ quoted_other text.now flags.0 at }
+fn quoted_other(here: &Inside, flags: Flags) -> Symbol
+    ensures { result ≡ quoted_other here.now.text.now flags.0 here.now.at }
 {
-    let c = byte(text, at);
+    let c = here.byte(0);
     if c != b'"' {
-        return Symbol::Byte(c, at + 1);
+        return Symbol::Byte(c, here.at + 1);
     }
-    if byte(text, at + 1) == b'"' {
-        return Symbol::Byte(b'"', at + 2);
+    if here.byte(1) == b'"' {
+        return Symbol::Byte(b'"', here.at + 2);
     }
-    closed(text, flags, at + 1)
+    closed(here.text, flags, here.at + 1)
 }
 
 // The symbol of the text's end.
@@ -89,13 +90,12 @@ fn at_end(mode: Mode, at: usize) -> Symbol
 }
 
 // A byte that is no end and starts neither a code nor a reference.
-fn other(text: &[u8], flags: Flags, mode: Mode, at: usize) -> Symbol
-    requires { at ≤ length text.now }
-    ensures { result ≡ other text.now flags.0 mode at }
+fn other(here: &Inside, flags: Flags, mode: Mode) -> Symbol
+    ensures { result ≡ other here.now.text.now flags.0 mode here.now.at }
 {
     match mode {
-        Mode::Plain => Symbol::Byte(byte(text, at), at + 1),
-        Mode::Quoted(_) => quoted_other(text, flags, at),
+        Mode::Plain => Symbol::Byte(here.byte(0), here.at + 1),
+        Mode::Quoted(_) => quoted_other(here, flags),
     }
 }
 
@@ -114,13 +114,14 @@ pub fn symbol_at(text: &[u8], flags: Flags, mode: Mode, at: usize) -> Symbol
     if is_ending_space(flags, mode, c) {
         return Symbol::End(TextPlace(at));
     }
+    let here = Inside { text, at };
     if is_mark(b'|', flags, Flags::BAR_PLAIN, c) {
-        return barred(text, flags, mode, at);
+        return barred(&here, flags, mode);
     }
     if c == b'<' {
-        return referred(text, at);
+        return referred(&here);
     }
-    other(text, flags, mode, at)
+    other(&here, flags, mode)
 }
 
 // Leading spaces are skipped. A quote next opens a quoted string, unless a flag makes it ordinary.

@@ -11,8 +11,10 @@ use Rattle.paper.specs.Texts.{bytes}
 use Rattle.paper.proofs.Choice.{either}
 use Rattle.paper.proofs.Runs.{passed_within}
 use Rattle.reader.specs.Reading.{no_limit, reading}
-use Rattle.reader.specs.declared.Reading.{Reading}
-use Rattle.reader.specs.declared.Reading.TheVariants.{Value, Refused}
+use Rattle.std.specs.Prelude.{Result, Ok, Err}
+use Rattle.paper.specs.declared.refusals.Refusal.{Refusal}
+use Rattle.paper.specs.declared.refusals.Refused.{Refused}
+use Rattle.reader.specs.declared.Number.{Number as Read}
 use Rattle.records.specs.Records.{same_bytes}
 use Rattle.tokens.specs.Tokens.{Lexeme, word_token, fault_of, number_by, single, from_less, from_greater, symbol_at, numeral, starting_at, token_at}
 use Rattle.tokens.specs.declared.Token.{Token}
@@ -24,7 +26,7 @@ abbrev pub FaultyIn : ℕ → Token → Type 0
 FaultyIn size End = Unit {0}
 FaultyIn size (Operates operator) = Unit {0}
 FaultyIn size (Number value) = Unit {0}
-FaultyIn size (FaultyNumber fault place) = ((number : ℕ) × (fault ≡ fault_of number)) × (place ≤ size)
+FaultyIn size (FaultyNumber fault place) = ((why : Refusal) × (fault ≡ fault_of why)) × (place ≤ size)
 FaultyIn size Name = Unit {0}
 FaultyIn size Open = Unit {0}
 FaultyIn size Close = Unit {0}
@@ -46,9 +48,9 @@ module _ (text : List ℕ) where
       (λ _. either (FaultyIn size) (same_bytes (bytes "EOR") word) (λ _. tt)
       (λ _. either (FaultyIn size) (same_bytes (bytes "NOT") word) (λ _. tt) (λ _. tt)))))
 
-  number_in : (at : ℕ) (r : Reading) → at ≤ size → Reads (length (drop at text)) r → InText (number_by r at)
-  number_in at (Value n) h r = tt
-  number_in at (Refused number place) h r = ((number, refl), omega (arith, length-drop at text))
+  number_in : (at : ℕ) (r : Result Read Refused) → at ≤ size → Reads (length (drop at text)) r → InText (number_by r at)
+  number_in at (Ok n) h r = tt
+  number_in at (Err refused) h r = ((refused.why, refl), omega (arith, length-drop at text))
 
   single_in : (c : ℕ) → FaultyIn size (single c)
   unfolding single

@@ -13,8 +13,9 @@ use Rattle.paper.specs.Bytes.{space, spaces, ends, letter, word_byte}
 use Rattle.paper.specs.Refusals.{longest}
 use Rattle.paper.proofs.Choice.{either, hit}
 use Rattle.paper.proofs.Runs.{inside, goes_on_lem, run_more, run_short, passed_within}
-use Rattle.reader.specs.declared.Reading.{Reading}
-use Rattle.reader.specs.declared.Reading.TheVariants.{Value, Refused}
+use Rattle.std.specs.Prelude.{Result, Ok, Err}
+use Rattle.paper.specs.declared.refusals.Refused.{Refused}
+use Rattle.reader.specs.declared.Number.{Number as Read}
 use Rattle.reader.specs.Reading.{run, goes_on, no_limit, judged, based, in_base, marked, numbered, reading}
 use Rattle.reader.proofs.Laws.{run_within}
 use Rattle.tokens.specs.declared.Token.{Token}
@@ -40,12 +41,12 @@ pub record Stands (text : List ℕ) (at : ℕ) (l : Lexeme) : Type 0 where
   pub takes : Takes l.token → l.place < l.next
 
 -- a number that is read takes a byte at least, and ends inside the text; one that is refused is refused there
-abbrev pub Reads : ℕ → Reading → Type 0
-Reads size (Value n) = (0 < n.end.0) × (n.end.0 ≤ size)
-Reads size (Refused number place) = place.0 ≤ size
+abbrev pub Reads : ℕ → Result Read Refused → Type 0
+Reads size (Ok n) = (0 < n.end.0) × (n.end.0 ≤ size)
+Reads size (Err r) = r.at.0 ≤ size
 
 module _ (text : List ℕ) (whole : Bool) (limit start : ℕ) where
-  abbrev R : Reading → Type 0
+  abbrev R : Result Read Refused → Type 0
   R = Reads (length text)
 
   judged_reads : (first end value : ℕ) → start ≤ length text → first ≤ end → end ≤ length text → R (judged text whole limit start first end value)
@@ -105,9 +106,9 @@ module _ (text : List ℕ) (at : ℕ) where
   word_stands l h = sized _ _ (omega (arith, run_more word_byte text at h (rw l))) (passed_within word_byte text at (omega arith))
 
   module _ (h : at < length text) where
-    number_stands : (r : Reading) → Reads (length (drop at text)) r → S (number_by r at)
-    number_stands (Value n) r = sized _ _ r.0 (omega (arith, r.1, length-drop at text))
-    number_stands (Refused number place) r = empty _ (λ t. t) (omega arith)
+    number_stands : (r : Result Read Refused) → Reads (length (drop at text)) r → S (number_by r at)
+    number_stands (Ok n) r = sized _ _ r.0 (omega (arith, r.1, length-drop at text))
+    number_stands (Err refused) r = empty _ (λ t. t) (omega arith)
 
     less_stands : S (from_less at (get_or text (at + 1) 0))
     unfolding from_less

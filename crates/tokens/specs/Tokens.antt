@@ -1,13 +1,14 @@
 -- Tokens: an operator, a number, a name, a bracket, longest first, the spaces before each ignored.
-use Rattle.std.specs.Prelude.{Bool, false, cond, ◌||◌, List, ℕ, ◌+◌, eqb, get_or, take, drop}
+use Rattle.std.specs.Prelude.{Bool, false, cond, ◌||◌, List, ℕ, ◌+◌, eqb, get_or, take, drop, Result, Ok, Err}
 use Rattle.paper.specs.Bytes.{among, run_of, spaces, ends, letter, word_byte}
 use Rattle.paper.specs.Texts.{bytes}
-use Rattle.paper.specs.Refusals.{no_digit, bad_base}
+use Rattle.paper.specs.Refusals.{no_digit, bad_base, refusal_number}
+use Rattle.paper.specs.declared.refusals.Refusal.{Refusal}
+use Rattle.paper.specs.declared.refusals.Refused.{Refused}
 use Rattle.paper.specs.declared.faults.Fault.{Fault}
 use Rattle.paper.specs.declared.faults.Fault.TheVariants.{NoDigit, BadBase, TooBig}
 use Rattle.reader.specs.Reading.{no_limit, reading}
-use Rattle.reader.specs.declared.Reading.{Reading}
-use Rattle.reader.specs.declared.Reading.TheVariants.{Value, Refused}
+use Rattle.reader.specs.declared.Number.{Number as Read}
 use Rattle.records.specs.Records.{same_bytes}
 use Rattle.arithmetic.specs.declared.operators.Operator.TheVariants.{Not, Product, Sum, Relation, And, Either}
 use Rattle.arithmetic.specs.declared.operators.Product.TheVariants.{Times, Over, Mod}
@@ -42,12 +43,12 @@ word_at text at =
     lexeme (word_token (take size (drop at text))) at size
 
 -- the fault that the reader's refusal of a number stands for: it has no other number here
-unfoldable pub fault_of : ℕ → Fault
-fault_of number = cond (eqb number no_digit) NoDigit (cond (eqb number bad_base) BadBase TooBig)
+unfoldable pub fault_of : Refusal → Fault
+fault_of why = cond (eqb (refusal_number why) no_digit) NoDigit (cond (eqb (refusal_number why) bad_base) BadBase TooBig)
 
-abbrev pub number_by : Reading → ℕ → Lexeme
-number_by (Value n) at = lexeme (Number n.value) at n.end.0
-number_by (Refused number place) at = lexeme (FaultyNumber (fault_of number) (at + place.0)) at 0
+abbrev pub number_by : Result Read Refused → ℕ → Lexeme
+number_by (Ok n) at = lexeme (Number n.value) at n.end.0
+number_by (Err r) at = lexeme (FaultyNumber (fault_of r.why) (at + r.at.0)) at 0
 
 -- a number is read as above, without whole or limit
 abbrev pub number_at : List ℕ → ℕ → Lexeme

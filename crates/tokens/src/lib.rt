@@ -1,17 +1,17 @@
 // Tokens: an operator, a number, a name, a bracket, longest first, the spaces before each ignored.
 #![tactic(auto)]
 
-ghost use Rattle.std.specs.Prelude.{◌≡◌, [], ◌∷◌, ◌+◌, ◌<◌, ◌≤◌, ◌^◌, length, drop};
+ghost use Rattle.std.specs.Prelude.{◌≡◌};
 ghost use Rattle.tokens.specs.declared.Token.TheVariants.{Operator as Operates};
-ghost use Rattle.records.specs.Records.{same_bytes};
 ghost use Rattle.tokens.specs.inner.Steps.{lexeme_of};
 ghost use Rattle.tokens.specs.Tokens.{lexeme, word_token, word_at, fault_of, number_at, single, from_less, from_greater, symbol_at, numeral, starting_at, token_at};
 
 use arithmetic::operators::{Either, Operator, Product, Relation, Sum};
-use paper::bytes::{ByteKind, among, byte, is_end, is_letter, skip};
+use paper::bytes::{ByteKind, byte, is_end, is_letter, skip};
 use paper::faults::Fault;
-use paper::{BAD_BASE, NO_DIGIT};
-use reader::{NO_LIMIT, Reading};
+use paper::inside::Inside;
+use paper::refusals::Refusal;
+use reader::NO_LIMIT;
 
 #[derive(Clone, Copy)]
 pub enum Token {
@@ -19,7 +19,7 @@ pub enum Token {
     End,
     Operator(Operator),
     Number(u32),
-    // A number that the reader refuses, and where.
+    // A number that the reader refuses, and where: a fault and no `Refused`, since what the definitions read (`Trees`, `Parsed`) has faults.
     FaultyNumber(Fault, usize),
     Name,
     Open,
@@ -36,84 +36,57 @@ pub struct Lexed {
     pub next: usize,
 }
 
-fn spells_two(word: &[u8], a: u8, b: u8) -> bool
-    ensures { result ≡ same_bytes (a ∷ b ∷ []) word.now }
-{
-    if word.len() != 2 {
-        return false;
-    }
-    a == word[0] && b == word[1]
-}
-
-fn spells_three(word: &[u8], a: u8, b: u8, c: u8) -> bool
-    ensures { result ≡ same_bytes (a ∷ b ∷ c ∷ []) word.now }
-{
-    if word.len() != 3 {
-        return false;
-    }
-    a == word[0] && (b == word[1] && c == word[2])
-}
-
 // The operators that are words, in capitals; every other word is a name.
+#[tactic(auto, using(crate::proofs::Words::of_two, crate::proofs::Words::of_three, crate::proofs::Words::of_other, std::proofs::lemmas::Bool::Decides::nat_tests))]
 fn word_token(word: &[u8]) -> Token
     ensures { result ≡ word_token word.now }
 {
-    if spells_three(word, b'M', b'O', b'D') {
-        return Token::Operator(Operator::Product(Product::Mod));
+    match word {
+        b"MOD" => Token::Operator(Operator::Product(Product::Mod)),
+        b"AND" => Token::Operator(Operator::And),
+        b"OR" => Token::Operator(Operator::Either(Either::Or)),
+        b"EOR" => Token::Operator(Operator::Either(Either::Eor)),
+        b"NOT" => Token::Operator(Operator::Not),
+        _ => Token::Name,
     }
-    if spells_three(word, b'A', b'N', b'D') {
-        return Token::Operator(Operator::And);
-    }
-    if spells_two(word, b'O', b'R') {
-        return Token::Operator(Operator::Either(Either::Or));
-    }
-    if spells_three(word, b'E', b'O', b'R') {
-        return Token::Operator(Operator::Either(Either::Eor));
-    }
-    if spells_three(word, b'N', b'O', b'T') {
-        return Token::Operator(Operator::Not);
-    }
-    Token::Name
 }
 
-fn word_at(text: &[u8], at: usize) -> Lexed
-    requires { at ≤ length text.now }
-    ensures { lexeme_of result ≡ word_at text.now at }
+fn word_at(here: &Inside) -> Lexed
+    ensures { lexeme_of result ≡ word_at here.now.text.now here.now.at }
 {
-    let next = skip(ByteKind::Word, text, at);
+    let next = skip(ByteKind::Word, here.text, here.at);
     Lexed {
-        token: word_token(&text[at..next]),
-        place: at,
+        token: word_token(&here.text[here.at..next]),
+        place: here.at,
         next,
     }
 }
 
-fn fault_of(number: u8) -> Fault
-    ensures { result ≡ fault_of number }
+// The fault of a number that the reader refuses: here it has no other refusals than these three.
+#[tactic(auto, using(std::proofs::lemmas::Bool::Decides::nat_tests), unfolding(crate::specs::Tokens::fault_of))]
+fn fault_of(why: Refusal) -> Fault
+    ensures { result ≡ fault_of why }
 {
-    if number == NO_DIGIT {
-        return Fault::NoDigit;
+    match why {
+        Refusal::NoDigit => Fault::NoDigit,
+        Refusal::BadBase => Fault::BadBase,
+        _ => Fault::TooBig,
     }
-    if number == BAD_BASE {
-        return Fault::BadBase;
-    }
-    Fault::TooBig
 }
 
-fn number_at(text: &[u8], at: usize) -> Lexed
-    requires { at ≤ length text.now }
-    ensures { lexeme_of result ≡ number_at text.now at }
+fn number_at(here: &Inside) -> Lexed
+    ensures { lexeme_of result ≡ number_at here.now.text.now here.now.at }
 {
-    match reader::read_unsigned(&text[at..], false, NO_LIMIT) {
-        Reading::Value(n) => Lexed {
+    match reader::read_unsigned(&here.text[here.at..], false, NO_LIMIT) {
+        Ok(n) => Lexed {
             token: Token::Number(n.value),
-            place: at,
-            next: at + n.end.0,
+            place: here.at,
+            next: here.at + n.end.0,
         },
-        Reading::Refused { number, at: place } => Lexed {
-            token: Token::FaultyNumber(fault_of(number), at + place.0),
-            place: at,
-            next: at,
+        Err(refused) => Lexed {
+            token: Token::FaultyNumber(fault_of(refused.why), here.at + refused.at.0),
+            place: here.at,
+            next: here.at,
         },
     }
 }
@@ -122,90 +95,66 @@ fn number_at(text: &[u8], at: usize) -> Lexed
 fn single(c: u8) -> Token
     ensures { result ≡ single c }
 {
-    if c == b'(' {
-        return Token::Open;
+    match c {
+        b'(' => Token::Open,
+        b')' => Token::Close,
+        b'*' => Token::Operator(Operator::Product(Product::Times)),
+        b'+' => Token::Operator(Operator::Sum(Sum::Plus)),
+        b'-' => Token::Operator(Operator::Sum(Sum::Minus)),
+        b'/' => Token::Operator(Operator::Product(Product::Over)),
+        b'=' => Token::Operator(Operator::Relation(Relation::Equal)),
+        _ => Token::Strange,
     }
-    if c == b')' {
-        return Token::Close;
-    }
-    if c == b'*' {
-        return Token::Operator(Operator::Product(Product::Times));
-    }
-    if c == b'+' {
-        return Token::Operator(Operator::Sum(Sum::Plus));
-    }
-    if c == b'-' {
-        return Token::Operator(Operator::Sum(Sum::Minus));
-    }
-    if c == b'/' {
-        return Token::Operator(Operator::Product(Product::Over));
-    }
-    if c == b'=' {
-        return Token::Operator(Operator::Relation(Relation::Equal));
-    }
-    Token::Strange
 }
 
-fn operator_of(operator: Operator, at: usize, size: usize) -> Lexed
-    requires { (at < 2 ^ 63) × (size ≤ 3) }
-    ensures { lexeme_of result ≡ lexeme (Operates operator) at size }
+fn operator_of(operator: Operator, here: &Inside, size: u8) -> Lexed
+    ensures { lexeme_of result ≡ lexeme (Operates operator) here.now.at size }
 {
     Lexed {
         token: Token::Operator(operator),
-        place: at,
-        next: at + size,
+        place: here.at,
+        next: here.at + usize::from(size),
     }
 }
 
 // The operators that start with "<", by the byte behind it.
-fn from_less(at: usize, c: u8) -> Lexed
-    requires { at < 2 ^ 63 }
-    ensures { lexeme_of result ≡ from_less at c }
+#[tactic(auto, using(std::proofs::lemmas::Bool::Decides::nat_tests), unfolding(crate::specs::Tokens::from_less))]
+fn from_less(here: &Inside, c: u8) -> Lexed
+    ensures { lexeme_of result ≡ from_less here.now.at c }
 {
-    if c == b'>' {
-        return operator_of(Operator::Relation(Relation::Unequal), at, 2);
+    match c {
+        b'>' => operator_of(Operator::Relation(Relation::Unequal), here, 2),
+        b'=' => operator_of(Operator::Relation(Relation::AtMost), here, 2),
+        b'<' => operator_of(Operator::Relation(Relation::ShiftLeft), here, 2),
+        _ => operator_of(Operator::Relation(Relation::Less), here, 1),
     }
-    if c == b'=' {
-        return operator_of(Operator::Relation(Relation::AtMost), at, 2);
-    }
-    if c == b'<' {
-        return operator_of(Operator::Relation(Relation::ShiftLeft), at, 2);
-    }
-    operator_of(Operator::Relation(Relation::Less), at, 1)
 }
 
 // The operators that start with ">", by the two bytes behind it.
-fn from_greater(at: usize, c: u8, d: u8) -> Lexed
-    requires { at < 2 ^ 63 }
-    ensures { lexeme_of result ≡ from_greater at c d }
+#[tactic(auto, using(std::proofs::lemmas::Bool::Decides::nat_tests), unfolding(crate::specs::Tokens::from_greater))]
+fn from_greater(here: &Inside, c: u8, d: u8) -> Lexed
+    ensures { lexeme_of result ≡ from_greater here.now.at c d }
 {
-    if c == b'=' {
-        return operator_of(Operator::Relation(Relation::AtLeast), at, 2);
+    match (c, d) {
+        (b'=', _) => operator_of(Operator::Relation(Relation::AtLeast), here, 2),
+        (b'>', b'>') => operator_of(Operator::Relation(Relation::ShiftRightUnsigned), here, 3),
+        (b'>', _) => operator_of(Operator::Relation(Relation::ShiftRight), here, 2),
+        _ => operator_of(Operator::Relation(Relation::Greater), here, 1),
     }
-    if c == b'>' {
-        if d == b'>' {
-            return operator_of(Operator::Relation(Relation::ShiftRightUnsigned), at, 3);
-        }
-        return operator_of(Operator::Relation(Relation::ShiftRight), at, 2);
-    }
-    operator_of(Operator::Relation(Relation::Greater), at, 1)
 }
 
-fn symbol_at(text: &[u8], at: usize) -> Lexed
-    requires { at < length text.now }
-    ensures { lexeme_of result ≡ symbol_at text.now at }
+#[tactic(auto, using(std::proofs::lemmas::Bool::Decides::nat_tests), unfolding(crate::specs::Tokens::symbol_at))]
+fn symbol_at(here: &Inside) -> Lexed
+    ensures { lexeme_of result ≡ symbol_at here.now.text.now here.now.at }
 {
-    let c = byte(text, at);
-    if c == b'<' {
-        return from_less(at, byte(text, at + 1));
-    }
-    if c == b'>' {
-        return from_greater(at, byte(text, at + 1), byte(text, at + 2));
-    }
-    Lexed {
-        token: single(c),
-        place: at,
-        next: at + 1,
+    match here.byte(0) {
+        b'<' => from_less(here, here.byte(1)),
+        b'>' => from_greater(here, here.byte(1), here.byte(2)),
+        c => Lexed {
+            token: single(c),
+            place: here.at,
+            next: here.at + 1,
+        },
     }
 }
 
@@ -213,9 +162,10 @@ fn symbol_at(text: &[u8], at: usize) -> Lexed
 fn starts_number(c: u8) -> bool
     ensures { result ≡ numeral c }
 {
-    c == b'&' || among(b'0', b'9', c)
+    matches!(c, b'&' | b'0'..=b'9')
 }
 
+#[tactic(auto, using(std::proofs::lemmas::Bool::Decides::nat_tests, paper::proofs::Runs::goes_on_lem), unfolding(crate::specs::Tokens::starting_at))]
 fn starting_at(text: &[u8], at: usize) -> Lexed
     ensures { lexeme_of result ≡ starting_at text.now at }
 {
@@ -227,13 +177,14 @@ fn starting_at(text: &[u8], at: usize) -> Lexed
             next: at,
         };
     }
+    let here = Inside { text, at };
     if is_letter(c) {
-        return word_at(text, at);
+        return word_at(&here);
     }
     if starts_number(c) {
-        return number_at(text, at);
+        return number_at(&here);
     }
-    symbol_at(text, at)
+    symbol_at(&here)
 }
 
 // The token behind a place.

@@ -1,4 +1,5 @@
 // The program over the longest input that it takes, 65,535 bytes, all of them plain.
+// A program of its own, since a program has one input.
 #![tactic(auto)]
 
 fn main(rt: HostRuntime) {

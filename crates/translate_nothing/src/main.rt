@@ -1,4 +1,5 @@
 // The program over an empty input, which it answers with nothing.
+// A program of its own, since a program has one input.
 #![tactic(auto)]
 
 fn main(rt: HostRuntime) {

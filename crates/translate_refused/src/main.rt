@@ -1,4 +1,5 @@
 // The program over a text that is refused.
+// A program of its own, since a program has one input.
 #![tactic(auto)]
 
 fn main(rt: HostRuntime) {

@@ -4,41 +4,41 @@ use mathlib.Core.List.Memᴰ.{head}
 use mathlib.Core.List.Memᴰ.{tail}
 use mathlib.Core.List.{List, Memᴰ}
 use mathlib.Core.Logic.{◌↔◌}
-use mathlib.Core.Path.{◌≡◌, refl, subst}
+use mathlib.Core.Path.{◌≡◌, refl, ap, subst}
 use Prim.Native.Nat.{ℕ, zero, suc, ◌+◌, ◌≤◌, ◌<◌}
 use native.Mathlib.Omega.{arith}
 use borrow.Author.Tests.{leb-false, ltb-true, ltb-false}
 use lib.Dec.{ltb, leb}
 use lib.ListN.{length, get_or}
-use Rattle.paper.specs.Refusals.{allowance_spent, bad_table, over_length, longest}
+use Rattle.paper.specs.Refusals.{refusal_number, allowance_spent, over_length, longest}
+use Rattle.paper.specs.declared.refusals.BadTable.{BadTable}
+use Rattle.paper.specs.declared.refusals.BadTableOf.{BadTableOf}
+use Rattle.paper.specs.declared.refusals.Refusal.{Refusal}
+use Rattle.paper.specs.declared.refusals.Refusal.TheVariants as Why
 use Rattle.paper.specs.declared.Holder.{Holder}
 use Rattle.paper.specs.declared.Holder.TheVariants.{Farm, House}
-use Rattle.paper.specs.declared.RecordPlace.{RecordPlace}
 use Rattle.paper.proofs.Choice.{clash, either}
 use Rattle.records.specs.Records.{next_place}
+use Rattle.std.specs.Prelude.{Result, Ok, Err}
 use Rattle.variables.specs.Tables as Tables
 use Rattle.variables.specs.Tables.{most, Sought, absent, present, sound, scanned, scan, checked, records_of, sought_in, check_number, check_place, check_count, check_numbers}
 use Rattle.variables.specs.Holdings.{held_by}
 use Rattle.variables.specs.Judgements.{bad_table_at, judged}
-use Rattle.variables.specs.declared.Checked.{Checked}
-use Rattle.variables.specs.declared.Checked.TheVariants.{Good, BadTable}
-use Rattle.variables.specs.declared.both.Judged.{Judged}
-use Rattle.variables.specs.declared.both.Judged.TheVariants.{Good as AllGood, BadTable as OneBad}
 use Rattle.variables.proofs.Judging.{Case, long_farm, long_house, bad_farm, bad_house, both_good, judged_case}
 
-pub record Bounded (r : Checked) : Type 0 where
+pub record Bounded (r : Result ℕ BadTable) : Type 0 where
   pub number : check_number r ≤ 255
   pub place : check_place r ≤ longest
   pub count : check_count r ≤ most
   pub listed : Memᴰ (check_number r) check_numbers
   -- a refusal has a number that is neither that of No room nor of Allowance spent
-  pub refused : (number : ℕ) (at : RecordPlace) → r ≡ BadTable number at → allowance_spent < number
+  pub refused : (why : BadTable) → r ≡ Err why → allowance_spent < refusal_number why.why
 
 module _ (table : List ℕ) (short : length table ≤ longest) where
-  good : (count : ℕ) → count ≤ most → Bounded (Good count)
-  good count c = record { number = omega arith; place = omega arith; count = c; listed = head refl; refused = λ n at e. clash (cc) }
+  good : (count : ℕ) → count ≤ most → Bounded (Ok count)
+  good count c = record { number = omega arith; place = omega arith; count = c; listed = head refl; refused = λ b e. clash (cc) }
 
-  bad : (place : ℕ) → leb (length table) place ≡ false → Bounded (Tables.bad_table_at bad_table place)
+  bad : (place : ℕ) → leb (length table) place ≡ false → Bounded (Tables.bad_table_at Why.BadTable place)
   bad place e =
       let h = leb-false (length table) place e in
       record {
@@ -46,7 +46,7 @@ module _ (table : List ℕ) (short : length table ≤ longest) where
         place = omega arith;
         count = omega arith;
         listed = tail (tail (head refl));
-        refused = λ n at q. let same : bad_table ≡ n = cc in omega arith;
+        refused = λ b q. let same : Why.BadTable ≡ b.why = cc in omega (arith, ap refusal_number same);
       }
 
   scanned_bounded : (left count place : ℕ) → count + left ≤ most → Bounded (scanned left count table place)
@@ -65,20 +65,20 @@ checked_bounded table =
       place = omega arith;
       count = omega arith;
       listed = tail (head refl);
-      refused = λ n at q. let same : over_length ≡ n = cc in omega arith;
+      refused = λ b q. let same : Why.OverLength ≡ b.why = cc in omega (arith, ap refusal_number same);
     })
     (λ e. scanned_bounded table (ltb-false longest (length table) e) most 0 0 (omega arith))
 
 -- a table whose check has no refusal's number is good
-pub good_table : (table : List ℕ) → check_number (checked table) ≡ 0 → (n : ℕ) × (checked table ≡ Good n)
+pub good_table : (table : List ℕ) → check_number (checked table) ≡ 0 → (n : ℕ) × (checked table ≡ Ok n)
 good_table table = go (checked table) refl
   where
-    go : (r : Checked) → checked table ≡ r → check_number r ≡ 0 → (n : ℕ) × (r ≡ Good n)
-    go (Good n) e z = (n, refl)
-    go (BadTable number at) e z = absurd (omega (arith, (checked_bounded table).refused number at e))
+    go : (r : Result ℕ BadTable) → checked table ≡ r → check_number r ≡ 0 → (n : ℕ) × (r ≡ Ok n)
+    go (Ok n) e z = (n, refl)
+    go (Err b) e z = absurd (omega (arith, (checked_bounded table).refused b e))
 
 -- a scan counts no more than 256 records
-pub count_bounded : (table : List ℕ) {n : ℕ} → length table ≤ longest → scan table ≡ Good n → n ≤ most
+pub count_bounded : (table : List ℕ) {n : ℕ} → length table ≤ longest → scan table ≡ Ok n → n ≤ most
 count_bounded table short e = subst (λ r. check_count r ≤ most) e (scanned_bounded table short most 0 0 (omega arith)).count
 
 -- a scan never finds that a table is too long
@@ -99,33 +99,34 @@ over_length_exactly table =
     (λ e. (λ h. absurd (scanned_short table most 0 0 h), λ h. absurd (omega (arith, h, ltb-false longest (length table) e))))
 
 -- the judgement of any bytes. A refusal has a number that is neither that of No room nor of Allowance spent
-abbrev pub Within : Judged → Type 0
-Within (AllGood count) = count ≤ most + most
-Within (OneBad number holder at) = (number ≤ 255) × (at.0 ≤ longest) × Memᴰ number check_numbers × (allowance_spent < number)
+abbrev pub Within : Result ℕ BadTableOf → Type 0
+Within (Ok count) = count ≤ most + most
+Within (Err bad) =
+    (refusal_number bad.why ≤ 255) × (bad.at.0 ≤ longest) × Memᴰ (refusal_number bad.why) check_numbers × (allowance_spent < refusal_number bad.why)
 
 pub judged_within : (farm house : List ℕ) → Within (judged farm house)
 judged_within farm house = go (judged_case farm house)
   where
-    over : (holder : Holder) → Within (bad_table_at over_length holder 0)
+    over : (holder : Holder) → Within (bad_table_at Why.OverLength holder 0)
     over holder = (omega arith, omega arith, tail (head refl), omega arith)
 
-    bad_at : (table : List ℕ) (holder : Holder) (place : ℕ) → checked table ≡ Tables.bad_table_at bad_table place → Within (bad_table_at bad_table holder place)
+    bad_at : (table : List ℕ) (holder : Holder) (place : ℕ) → checked table ≡ Tables.bad_table_at Why.BadTable place → Within (bad_table_at Why.BadTable holder place)
     bad_at table holder place e =
         let within = subst (λ r. check_place r ≤ longest) e (checked_bounded table).place in
         (omega arith, within, tail (tail (head refl)), omega arith)
 
-    counted : (table : List ℕ) {n : ℕ} → checked table ≡ Good n → n ≤ most
+    counted : (table : List ℕ) {n : ℕ} → checked table ≡ Ok n → n ≤ most
     counted table e = subst (λ r. check_count r ≤ most) e (checked_bounded table).count
 
-    go : {r : Judged} → Case farm house r → Within r
+    go : {r : Result ℕ BadTableOf} → Case farm house r → Within r
     go (long_farm l) = over Farm
     go (long_house f l) = over House
     go (bad_farm f h place b) = bad_at farm Farm place b
     go (bad_house f h own g place b) = bad_at house House place b
     go (both_good f h own g count b) = omega (arith, counted farm g, counted house b)
 
-pub bad_number : (farm house : List ℕ) (number : ℕ) (holder : Holder) (place : ℕ) → judged farm house ≡ bad_table_at number holder place → allowance_spent < number
-bad_number farm house number holder place e = (subst Within e (judged_within farm house)).3
+pub bad_number : (farm house : List ℕ) (why : Refusal) (holder : Holder) (place : ℕ) → judged farm house ≡ bad_table_at why holder place → allowance_spent < refusal_number why
+bad_number farm house why holder place e = (subst Within e (judged_within farm house)).3
 
 -- the bytes of two tables are bytes
 abbrev pub AllBytes : List ℕ → List ℕ → Type 0

@@ -10,7 +10,7 @@ use Rattle.records.specs.Records.{Entry, entry_at, record_bytes}
 use Rattle.records.proofs.Format.{whole_bytes}
 use Rattle.records.proofs.Whole.{Whole}
 use Rattle.variables.specs.Tables.{checked, records_of}
-use Rattle.variables.specs.declared.Checked.TheVariants.{Good}
+use Rattle.std.specs.Prelude.{Ok}
 use Rattle.variables.proofs.Chain.{Chain, end, next}
 use Rattle.variables.proofs.Good.{laid, wholes}
 
@@ -22,7 +22,7 @@ chained {table} {place} (end q) ws = drop_of_length-le table {i = place} (omega 
 chained {table} (next {place = place} r) ws =
     whole_bytes table place (ws _ (head refl)) ∙ ap (◌++◌ (record_bytes (entry_at table place))) (chained r (λ e m. ws e (tail m)))
 
-module _ (table : List ℕ) {n : ℕ} (good : checked table ≡ Good n) where
+module _ (table : List ℕ) {n : ℕ} (good : checked table ≡ Ok n) where
   pub format : table ≡ flatten (map record_bytes (records_of table))
   format = let l = laid table good in chained l.chain (λ e m. wholes l m)
 

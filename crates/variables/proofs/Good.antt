@@ -14,7 +14,9 @@ use Rattle.paper.specs.Refusals.{longest}
 use Rattle.records.specs.Records.{next_place, shaped, Entry, entry_at}
 use Rattle.records.proofs.Whole.{Whole, shaped_whole}
 use Rattle.variables.specs.Tables.{most, is_new, sound, bad_table_at, scanned, checked, records_of}
-use Rattle.variables.specs.declared.Checked.TheVariants.{Good}
+use Rattle.std.specs.Prelude.{Result, Ok}
+use Rattle.paper.specs.declared.refusals.BadTable.{BadTable}
+use Rattle.paper.specs.declared.refusals.Refusal.{Refusal}
 use Rattle.variables.proofs.Chain.{Chain, end, next, exact, starts, place_of}
 
 module _ (table : List ℕ) (place : ℕ) where
@@ -34,11 +36,11 @@ record Passed (table : List ℕ) (left count n place : ℕ) : Type 0 where
   few : length rows ≤ left
   sounds : (e : Entry) → Memᴰ e rows → sound table e.place ≡ true
 
-not_refused : {number place n : ℕ} → bad_table_at number place ≡ Good n → ⊥
+not_refused : {why : Refusal} {place n : ℕ} → bad_table_at why place ≡ Ok n → ⊥
 not_refused e = let z : ◌≡◌ {A = ℕ} 0 1 = cc in omega arith
 
 module _ (table : List ℕ) (n : ℕ) where
-  over : (left count place : ℕ) → place ≤ length table → length table ≤ place → Good count ≡ Good n → Passed table left count n place
+  over : (left count place : ℕ) → place ≤ length table → length table ≤ place → ◌≡◌ {A = Result ℕ BadTable} (Ok count) (Ok n) → Passed table left count n place
   over left count place h l e =
       let c : count ≡ n = cc in
       let at_end : place ≡ length table = omega arith in
@@ -65,7 +67,7 @@ module _ (table : List ℕ) (n : ℕ) where
         each e (head q) = rw (ap (λ x. x.place) q ∙ place_of table place) s
         each e (tail m) = p.sounds e m
 
-  passed : (left count place : ℕ) → place ≤ length table → scanned left count table place ≡ Good n → Passed table left count n place
+  passed : (left count place : ℕ) → place ≤ length table → scanned left count table place ≡ Ok n → Passed table left count n place
   unfolding scanned
   passed zero count place h e = go (leb (length table) place) refl where
     go : (b : Bool) → leb (length table) place ≡ b → Passed table zero count n place
@@ -74,7 +76,7 @@ module _ (table : List ℕ) (n : ℕ) where
   passed (suc left) count place h e = go (leb (length table) place) (sound table place) refl refl (passed left (suc count) (next_place table place)) where
     go :
         (b s : Bool) → leb (length table) place ≡ b → sound table place ≡ s →
-        (let p = next_place table place in p ≤ length table → scanned left (suc count) table p ≡ Good n → Passed table left (suc count) n p) →
+        (let p = next_place table place in p ≤ length table → scanned left (suc count) table p ≡ Ok n → Passed table left (suc count) n p) →
         Passed table (suc left) count n place
     go true s q r further = over (suc left) count place h (leb-true _ _ q) (rw q at e)
     go false true q r further = one_more left count place r (further (next_inside table place r) (rw (q, r) at e))
@@ -88,7 +90,7 @@ pub record Laid (table : List ℕ) (n : ℕ) : Type 0 where
   pub few : n ≤ most
   pub sounds : (e : Entry) → Memᴰ e (records_of table) → sound table e.place ≡ true
 
-pub laid : {n : ℕ} (table : List ℕ) → checked table ≡ Good n → Laid table n
+pub laid : {n : ℕ} (table : List ℕ) → checked table ≡ Ok n → Laid table n
 unfolding checked
 laid {n} table e = go (ltb longest (length table)) refl where
   go : (b : Bool) → ltb longest (length table) ≡ b → Laid table n

@@ -12,19 +12,18 @@ use Rattle.variables.specs.Judgements.{judged}
 use Rattle.variables.specs.Tables.{most, records_of, scan, checked, sought_in}
 use Rattle.variables.specs.Holdings.{sought_in_both, held_in, or_else}
 use Rattle.variables.specs.inner.Keys.{line_of, lines_of, laid_over, keys_of, Keys, passed_lines, judged_lines, sought_by}
-use Rattle.variables.specs.declared.Checked.TheVariants.{Good}
-use Rattle.variables.specs.declared.both.Judged.TheVariants.{Good as AllGood}
+use Rattle.std.specs.Prelude.{Ok}
 use Rattle.variables.proofs.Good.{laid}
 use Rattle.variables.proofs.Judging.{checked_short, BothGood, both_are}
 use Rattle.variables.proofs.Lines.{by_records, or_nowhere}
 use Rattle.variables.proofs.Passed.{laid_part, judged_few, laid_long}
 
 -- a good table's records have as many lines as there are
-pub lines_long : (holder : Holder) (table : List ℕ) {n : ℕ} → checked table ≡ Good n → length (lines_of holder (records_of table)) ≡ n
+pub lines_long : (holder : Holder) (table : List ℕ) {n : ℕ} → checked table ≡ Ok n → length (lines_of holder (records_of table)) ≡ n
 lines_long holder table good = length-map (records_of table) (line_of holder) ∙ (laid table good).counted
 
 pub passed_long :
-    (holder : Holder) (table : List ℕ) {n : ℕ} → length table ≤ longest → scan table ≡ Good n → length (passed_lines holder table (scan table)) ≡ n
+    (holder : Holder) (table : List ℕ) {n : ℕ} → length table ≤ longest → scan table ≡ Ok n → length (passed_lines holder table (scan table)) ≡ n
 passed_long holder table short e =
     ap (λ r. length (passed_lines holder table r)) e ∙ lines_long holder table (checked_short table short ∙ e)
 
@@ -32,8 +31,8 @@ passed_long holder table short e =
 module _ (farm house : List ℕ) {count : ℕ} (g : BothGood farm house count) where
   all_passed : judged_lines farm house ≡ keys_of farm house
   all_passed =
-      let f : scan farm ≡ Good g.own = sym (checked_short farm g.farm_short) ∙ g.farm_good in
-      let h : scan house ≡ Good g.rest = sym (checked_short house g.house_short) ∙ g.house_good in
+      let f : scan farm ≡ Ok g.own = sym (checked_short farm g.farm_short) ∙ g.farm_good in
+      let h : scan house ≡ Ok g.rest = sym (checked_short house g.house_short) ∙ g.house_good in
       rw (le-ltb longest (length farm) g.farm_short, le-ltb longest (length house) g.house_short, f, h)
 
   long : length (keys_of farm house) ≡ count
@@ -48,7 +47,7 @@ keys_long farm house keys₀ keys laid_so long =
 
 -- the lines that the judgement of good tables lays
 module _ (farm house keys₀ : List ℕ) {keys : List ℕ} {count : ℕ}
-    (laid_so : keys ≡ laid_over (judged_lines farm house) keys₀) (good : judged farm house ≡ AllGood count) where
+    (laid_so : keys ≡ laid_over (judged_lines farm house) keys₀) (good : judged farm house ≡ Ok count) where
   both : BothGood farm house count
   both = both_are farm house good
 

@@ -10,3 +10,4 @@ pub mod Unique
 pub mod Bounds
 pub mod Own
 pub mod Judging
+pub mod BlockLaws

@@ -5,7 +5,6 @@ use mathlib.Core.Path.{◌≡◌, refl, ap, sym, subst, ◌∙◌}
 use Prim.Native.Nat.{ℕ, zero, suc, ◌+◌, ◌-◌, ◌*◌, ◌/◌, ◌%◌, ◌<◌, ◌≤◌}
 use native.Mathlib.Numerals.{add-one}
 use native.Mathlib.Omega.{arith}
-use borrow.Author.Count.{below_more}
 use borrow.Author.Tests.{eq-eqb, ne_eqb, lt-ltb, le-ltb}
 use lib.Dec.{ltb, eqb}
 use lib.ListN.{length, get_or, take, drop, drop_of_length-le}
@@ -38,16 +37,6 @@ module _ (farm house keys name : List ℕ) (at : ℕ) where
         sought_by farm house (drop at keys) name ≡ sought_by farm house (drop (at + 1) keys) name
     unfolding sought_by
     not_met e = rw (add-one, drop-cons keys at 0, e)
-
--- lines that can be passed over
-pub without_none : (key : ℕ) (keys : List ℕ) (at : ℕ) → at ≡ 0 → Without key keys at
-without_none key keys at e = record { inside = omega arith; passes = λ k h. absurd (omega arith) }
-
-pub without_more :
-    (key : ℕ) (keys : List ℕ) (at next : ℕ) → next ≡ at + 1 → Without key keys at → at < length keys →
-    (get_or keys at 0 % 32768 ≡ key → ⊥) → Without key keys next
-without_more key keys at next n w h other =
-    record { inside = omega arith; passes = λ k l. below_more (λ k. get_or keys k 0 % 32768 ≡ key → ⊥) at w.passes other k (omega arith) }
 
 -- the part of some keys that is all of them, and a key that is a name's
 pub without_whole : {key own : ℕ} (keys : List ℕ) (stop : ℕ) → key ≡ own → Without key (take (length keys - 0) keys) stop → Without own keys stop

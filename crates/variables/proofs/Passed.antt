@@ -13,8 +13,8 @@ use Rattle.paper.proofs.Choice.{either}
 use Rattle.records.specs.Records.{next_place, entry_at}
 use Rattle.variables.specs.Tables.{most, entries, before, scan}
 use Rattle.variables.specs.inner.Keys.{line_of, lines_of, laid_over, reach, passed_lines, behind_farm, both_lines, judged_lines}
-use Rattle.variables.specs.declared.Checked.{Checked}
-use Rattle.variables.specs.declared.Checked.TheVariants.{Good, BadTable}
+use Rattle.std.specs.Prelude.{Result, Ok, Err}
+use Rattle.paper.specs.declared.refusals.BadTable.{BadTable}
 use Rattle.variables.proofs.Chain.{Chain, end, none_left, exact, snoc}
 
 -- one line more behind others
@@ -103,7 +103,7 @@ entries_few (suc left) table stop place =
     (λ _. omega (arith, entries_few left table stop (next_place table place)))
     (λ _. omega arith)
 
-passed_few : (holder : Holder) (table : List ℕ) (r : Checked) → length (passed_lines holder table r) ≤ most
+passed_few : (holder : Holder) (table : List ℕ) (r : Result ℕ BadTable) → length (passed_lines holder table r) ≤ most
 passed_few holder table r =
     omega (arith, length-map (before table (reach table r)) (line_of holder), entries_few most table (reach table r) 0)
 
@@ -117,9 +117,9 @@ judged_few farm house =
     second : List ℕ
     second = behind_farm (scan farm) (passed_lines House house (scan house))
 
-    second_few : (r : Checked) → length (behind_farm r (passed_lines House house (scan house))) ≤ most
-    second_few (Good count) = passed_few House house (scan house)
-    second_few (BadTable number at) = omega arith
+    second_few : (r : Result ℕ BadTable) → length (behind_farm r (passed_lines House house (scan house))) ≤ most
+    second_few (Ok count) = passed_few House house (scan house)
+    second_few (Err bad) = omega arith
 
 -- and the array keeps its length
 pub laid_long : (lines keys : List ℕ) → length lines ≤ length keys → length (laid_over lines keys) ≡ length keys

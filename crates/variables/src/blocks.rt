@@ -1,6 +1,6 @@
 // Lines passed over in blocks: a look-up's first lines, as far as none of them has its key. A block's lines are compared with no branch
 // between them: the compiler then makes vector instructions of the comparisons.
-ghost use Rattle.std.specs.Prelude.{◌≡◌, ◌+◌, ◌%◌, ◌≤◌, length};
+ghost use Rattle.std.specs.Prelude.{◌≡◌, ℕ, ◌%◌, ◌<◌, get_or};
 ghost use Rattle.variables.specs.inner.Keys.{Without};
 
 // A block's length, in lines.
@@ -10,19 +10,16 @@ const BLOCK: usize = 16;
 fn hit(line: u32, key: u32) -> u32
     ensures { result ≡ 0 → line % 32768 ≡ key → ⊥ }
 {
-    if line % 32768 == key { 1 } else { 0 }
+    u32::from(line % 32768 == key)
 }
 
-// 0 where no line of the block at a place has a key.
-fn hits(keys: &[u32], at: usize, key: u32) -> u32
-    requires { at + 16 ≤ length keys.now }
-    ensures { result ≡ 0 → Without key keys.now at → Without key keys.now (at + 16) }
+// 0 where no line of a block has a key.
+fn hits(block: &[u32; BLOCK], key: u32) -> u32
+    ensures { result ≡ 0 → (k : ℕ) → k < 16 → get_or block.now k 0 % 32768 ≡ key → ⊥ }
 {
     let mut any = 0;
-    let mut i = 0;
-    while i < BLOCK {
-        any |= hit(keys[at + i], key);
-        i += 1;
+    for line in block {
+        any |= hit(*line, key);
     }
     any
 }
@@ -31,12 +28,11 @@ fn hits(keys: &[u32], at: usize, key: u32) -> u32
 pub(crate) fn blocks_without(keys: &[u32], key: u32) -> usize
     ensures { Without key keys.now result }
 {
-    let mut at = 0;
-    while BLOCK <= keys.len() - at {
-        if hits(keys, at, key) != 0 {
-            return at;
+    let (blocks, _) = keys.as_chunks::<BLOCK>();
+    for (number, block) in blocks.iter().enumerate() {
+        if hits(block, key) != 0 {
+            return BLOCK * number;
         }
-        at += BLOCK;
     }
-    at
+    BLOCK * blocks.len()
 }

@@ -1,14 +1,14 @@
 // The keys of tables' records: a line for each, with the record's place, a mark of the table that holds it and a key of its name. A
 // look-up goes over the lines, the first of them in blocks, and comes to a table only where the keys are equal: it does not follow the
-// records' lengths, and compares few names.
+// records' lengths, and compares few names. Place, holder and key lie in one `u32` and in no struct: so sixteen lines are compared at once.
 ghost use Rattle.std.specs.Prelude.{◌≡◌, ◌&&◌, ◌/◌, ◌%◌, ◌≤◌, eqb};
 ghost use Rattle.variables.specs.Holdings.{held_by};
 ghost use Rattle.variables.specs.inner.Keys.{mark_of, holder_of, line_of, record_by, sought_by, match_as};
 ghost use Rattle.records.specs.Records.{same_name, entry_at};
 ghost use Rattle.records.specs.Kinds.{variable_at};
 
-use crate::Match;
 use crate::blocks::blocks_without;
+use crate::both::Tables;
 use paper::Holder;
 use records::Variable;
 use records::names::{key_of, same_name};
@@ -49,48 +49,36 @@ fn holder_of(line: u32) -> Holder
     Holder::Farm
 }
 
-// That one of the two tables that holds something.
-pub(crate) fn table_of<'a>(farm: &'a [u8], house: &'a [u8], holder: Holder) -> &'a [u8]
-    ensures { result.now ≡ held_by holder farm.now house.now }
-{
-    match holder {
-        Holder::Farm => farm,
-        Holder::House => house,
-    }
-}
-
 // Whether a line's record has a name of this key.
-fn is_named<'a>(farm: &'a [u8], house: &'a [u8], line: u32, key: u32, name: &[u8]) -> bool
-    ensures { result ≡ (eqb (line % 32768) key && same_name (record_by farm.now house.now line).name name.now) }
+fn is_named(tables: &Tables<'_>, line: u32, key: u32, name: &[u8]) -> bool
+    ensures { result ≡ (eqb (line % 32768) key && same_name (record_by tables.now.farm.now tables.now.house.now line).name name.now) }
 {
     if line % 32768 == key {
-        let table = table_of(farm, house, holder_of(line));
+        let table = tables.held_by(holder_of(line));
         return same_name(records::name_at(table, place_in(line)), name);
     }
     false
 }
 
-fn variable_of<'a>(farm: &'a [u8], house: &'a [u8], line: u32) -> Variable
-    ensures { result ≡ variable_at (holder_of line) (held_by (holder_of line) farm.now house.now) (record_by farm.now house.now line) }
+fn variable_of(tables: &Tables<'_>, line: u32) -> Variable
+    ensures { result ≡ variable_at (holder_of line) (held_by (holder_of line) tables.now.farm.now tables.now.house.now) (record_by tables.now.farm.now tables.now.house.now line) }
 {
     let holder = holder_of(line);
-    records::variable_at(holder, table_of(farm, house, holder), place_in(line))
+    records::variable_at(holder, tables.held_by(holder), place_in(line))
 }
 
 // The first record with a name, among those of some keys of two tables. Any lines are gone through: a place that is not a record's is
 // read as if it were one. The blocks get the keys as a part, though it is all of them: handed on as they are, they would come here by
 // their place in memory, and every caller's frame would be larger, those of 17 levels of an expression too.
-pub fn find<'a>(farm: &'a [u8], house: &'a [u8], keys: &[u32], name: &[u8]) -> Match
-    ensures { result ≡ match_as farm.now house.now (sought_by farm.now house.now keys.now name.now) }
+pub fn find(tables: &Tables<'_>, keys: &[u32], name: &[u8]) -> Option<Variable>
+    ensures { result ≡ match_as tables.now.farm.now tables.now.house.now (sought_by tables.now.farm.now tables.now.house.now keys.now name.now) }
 {
     let key = key_of(name);
-    let mut at = blocks_without(&keys[0..], key);
-    while at < keys.len() {
-        let line = keys[at];
-        if is_named(farm, house, line, key, name) {
-            return Match::Record(variable_of(farm, house, line));
+    let passed = blocks_without(&keys[0..], key);
+    for line in &keys[passed..] {
+        if is_named(tables, *line, key, name) {
+            return Some(variable_of(tables, *line));
         }
-        at += 1;
     }
-    Match::Missing
+    None
 }

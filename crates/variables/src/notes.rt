@@ -1,30 +1,21 @@
-// Notes of the keys that lines have: a bit for each remainder of a key by 2,048. Where a key's bit is not set, no line that was noted has
-// that key: so the check of a table goes over the lines before a record only where another name has set the bit of its name.
-ghost use Rattle.std.specs.Prelude.{◌≡◌, ◌/◌, ◌%◌, ◌<◌};
-ghost use Rattle.variables.specs.inner.Notes.{noted, with_note};
+// Notes of the keys that lines have: of each the remainder by 2,048. Where a key's is not noted, no line that was noted has that key: so
+// the check of a table goes over the lines before a record only where another name has noted that of its name.
+ghost use Rattle.std.specs.Prelude.{◌≡◌, ℕ, ◌||◌, ◌%◌, eqb};
+ghost use Rattle.variables.specs.inner.Notes.{noted};
 
-pub(crate) type Notes = [u32; 64];
+use paper::bits::Bits;
 
-pub(crate) const NO_NOTES: Notes = [0; 64];
-
-// The word that has the bit of a line's key. The bit's number in it is the line's remainder by 32.
-fn word_of(line: u32) -> usize
-    ensures { (result ≡ line / 32 % 64) × (result < 64) }
-{
-    (line / 32 % 64) as usize
-}
+pub(crate) type Notes = Bits<64>;
 
 // Whether a line with this line's key can be among those that were noted.
 pub(crate) fn is_noted(notes: &Notes, line: u32) -> bool
     ensures { result ≡ noted notes.now line }
 {
-    let word = notes[word_of(line)];
-    (word >> (line % 32)) % 2 == 1
+    notes.has(line % 2048)
 }
 
 pub(crate) fn note(notes: &mut Notes, line: u32)
-    ensures { notes.new ≡ with_note notes.old line }
+    ensures { (other : ℕ) → noted notes.new other ≡ (eqb (other % 2048) (line % 2048) || noted notes.old other) }
 {
-    let at = word_of(line);
-    notes[at] = notes[at] | (1 << (line % 32));
+    notes.insert(line % 2048);
 }

@@ -1,69 +1,49 @@
-// A line of answer, written to standard output piece by piece: no buffer has to be lent for it. A write that fails leaves a
-// gap there, which the comparison shows.
-use paper::Holder;
+// What a line of answer is made of. It is written to standard output piece by piece: no buffer has to be lent for it. A write that fails
+// leaves a gap there, which the comparison shows.
+use paper::refusals::Refusal;
+use paper::{Holder, RecordPlace, TextPlace};
+use std::fmt;
 
-// The answer to a line that is no case.
-pub(crate) fn bad_line(rt: &impl Print) {
-    word(rt, b"bad line");
+// A place as a line writes it: `PLACE`, or `W PLACE` where lines of its kind say what a place is counted in. An index is bad as a whole,
+// and its place is its start.
+#[derive(Clone, Copy)]
+pub(crate) enum Place {
+    Bare(usize),
+    InText(TextPlace),
+    InTable(Holder, RecordPlace),
+    InIndex,
 }
 
-// The start of an answer that refuses: `no N`.
-pub(crate) fn refusal(rt: &impl Print, why: u8) {
-    word(rt, b"no");
-    number(rt, why as usize);
-}
-
-// A refusal with nothing but its place: `no N PLACE`.
-pub(crate) fn refusal_at(rt: &impl Print, why: u8, place: usize) {
-    refusal(rt, why);
-    number(rt, place);
-}
-
-// A refusal that says what it counts its place in, `t` for the text or a table's letter: `no N W PLACE`.
-pub(crate) fn refusal_in(rt: &impl Print, why: u8, counted: u8, place: usize) {
-    refusal(rt, why);
-    letter(rt, b' ');
-    letter(rt, counted);
-    number(rt, place);
-}
-
-// The letter of a table.
-pub(crate) fn letter_of(holder: Holder) -> u8 {
-    match holder {
-        Holder::Farm => b'f',
-        Holder::House => b'h',
+impl fmt::Display for Place {
+    fn fmt<W: fmt::Write>(&self, f: &mut fmt::Formatter<W>) -> fmt::Result {
+        match *self {
+            Place::Bare(at) => write!(f, "{at}"),
+            Place::InText(TextPlace(at)) => write!(f, "t {at}"),
+            Place::InTable(Holder::Farm, RecordPlace(at)) => write!(f, "f {at}"),
+            Place::InTable(Holder::House, RecordPlace(at)) => write!(f, "h {at}"),
+            Place::InIndex => write!(f, "i 0"),
+        }
     }
 }
 
-pub(crate) fn word(rt: &impl Print, letters: &[u8]) {
-    let _ = rt.write_all(letters);
-}
+// Bytes in hex, or "-" for none.
+#[derive(Clone, Copy)]
+pub(crate) struct Hex<'a>(pub(crate) &'a [u8]);
 
-pub(crate) fn letter(rt: &impl Print, c: u8) {
-    word(rt, &[c]);
-}
-
-// A space, and a number in decimal.
-pub(crate) fn number(rt: &impl Print, n: usize) {
-    let _ = print!(rt; " {n}");
-}
-
-// A space, and the signed number of a 32-bit pattern in decimal.
-pub(crate) fn signed(rt: &impl Print, pattern: u32) {
-    if pattern < 2147483648 {
-        let _ = print!(rt; " {pattern}");
-    } else {
-        let _ = print!(rt; " -{}", 4294967296 - pattern as u64);
+impl<'a> fmt::Display for Hex<'a> {
+    fn fmt<W: fmt::Write>(&self, f: &mut fmt::Formatter<W>) -> fmt::Result {
+        if self.0.is_empty() {
+            return write!(f, "-");
+        }
+        for byte in self.0 {
+            write!(f, "{byte:02x}")?;
+        }
+        Ok(())
     }
 }
 
-// A space, and bytes in hex, or "-" for none.
-pub(crate) fn hex(rt: &impl Print, bytes: &[u8]) {
-    letter(rt, b' ');
-    if bytes.len() == 0 {
-        letter(rt, b'-');
-    }
-    for byte in bytes {
-        let _ = print!(rt; "{byte:02x}");
-    }
+// `no N PLACE` or `no N W PLACE`: an answer that refuses, or its start.
+pub(crate) fn refusal(rt: &impl Print, why: Refusal, place: Place) {
+    let number = why.number();
+    let _ = print!(rt; "no {number} {place}");
 }

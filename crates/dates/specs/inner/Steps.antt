@@ -1,13 +1,13 @@
 -- What inner functions give.
-use Rattle.std.specs.Prelude.{Bool, cond, not, ◌&&◌, List, [], ◌∷◌, ℕ, ◌+◌, ◌/◌, ◌%◌, eqb, length}
+use Rattle.std.specs.Prelude.{Bool, not, ◌&&◌, List, ℕ, ◌+◌, ◌/◌, ◌%◌, eqb, length, Result, Ok, Err}
 use Rattle.calendar.specs.declared.Moment.{Moment}
 use Rattle.dates.specs.Fields.{shown}
 use Rattle.dates.specs.Formats.{Layout, ended, copies, shows, bad_field_at}
 use Rattle.dates.specs.declared.fields.Field.{Field}
 use Rattle.dates.specs.declared.fields.Field.TheVariants.{Hundredths, Seconds, Minutes, Hours, Day, Month, MonthName, Century, Year, DayOfYear, WeekdayName}
 use Rattle.dates.specs.declared.fields.Glyphs.{Glyphs}
-use Rattle.dates.specs.declared.render.Rendered.{Rendered}
-use Rattle.dates.specs.declared.render.Rendered.TheVariants.{Characters, BadField}
+use Rattle.dates.specs.declared.fields.Glyphs.TheVariants.{Two, Three}
+use Rattle.dates.specs.declared.render.BadField.{BadField}
 
 -- a byte that stands for itself: neither the zero that ends a format, nor a percent sign
 abbrev pub plain_byte : ℕ → Bool
@@ -15,7 +15,8 @@ plain_byte c = not (eqb c 0) && not (eqb c 37)
 
 -- the bytes of what a field shows
 abbrev pub glyphs : Glyphs → List ℕ
-glyphs g = g.first ∷ g.second ∷ cond g.three (g.third ∷ []) []
+glyphs (Two shown) = shown
+glyphs (Three shown) = shown
 
 -- the number that a field shows, or that its name has among the months or the weekdays
 unfoldable pub number : Field → Moment → ℕ
@@ -32,8 +33,8 @@ number DayOfYear m = m.yearday
 number WeekdayName m = m.weekday
 
 -- how many characters a layout comes to behind some, or its first bad field
-abbrev pub rendered : Moment → ℕ → Layout → Rendered
-rendered m n ended = Characters n
+abbrev pub rendered : Moment → ℕ → Layout → Result ℕ BadField
+rendered m n ended = Ok n
 rendered m n (copies c rest) = rendered m (n + 1) rest
 rendered m n (shows field rest) = rendered m (n + length (shown field m)) rest
-rendered m n (bad_field_at at) = BadField (record { 0 = at })
+rendered m n (bad_field_at at) = Err (record { at = record { 0 = at } })

@@ -6,34 +6,18 @@ use Rattle.paper.specs.Refusals.{longest}
 use Rattle.filter.proofs.ShownLaws.{written_answer, line_answer}
 use Rattle.filter.proofs.answer.Goals as goal
 
-pub returns-in-Written : goal.returns-in-Written
-returns-in-Written c =
+pub returns-in-Ok : goal.returns-in-Ok
+returns-in-Ok c =
     let a = c.args in
     let room : length a.out.now ≡ longest = search rules in
-    let both = written_answer a.text.now _ _ a.out.now refl c.none.ensures room _ _ _ _ _ c.translate-translated.ensures.buffer
-    c.translate-translated.ensures.answer c.in-Written.is in
+    let both = written_answer a.text.now _ _ a.out.now refl c.none.ensures room _ _ _ c.translate-translated.ensures.buffer
+    c.translate-translated.ensures.answer c.in-Ok.is in
     record { length = both.0; buffer = both.1 }
 
-pub returns-in-Refused : goal.returns-in-Refused
-returns-in-Refused c =
+pub returns-in-Err : goal.returns-in-Err
+returns-in-Err c =
     let a = c.args in
     let room : length a.out.now ≡ longest = search rules in
-    let both = line_answer a.text.now _ _ a.out.now refl c.none.ensures room _ _ refl c.translate-translated.ensures.buffer
-    c.translate-translated.ensures.answer c.in-Refused.is (c.refusal.ensures.length, c.refusal.ensures.buffer) in
-    record { length = both.0; buffer = both.1 }
-
-pub returns-in-BadTable : goal.returns-in-BadTable
-returns-in-BadTable c =
-    let a = c.args in
-    let room : length a.out.now ≡ longest = search rules in
-    let both = line_answer a.text.now _ _ a.out.now refl c.none.ensures room _ _ refl c.translate-translated.ensures.buffer
-    c.translate-translated.ensures.answer c.in-BadTable.is (c.refusal-in-BadTable.ensures.length, c.refusal-in-BadTable.ensures.buffer) in
-    record { length = both.0; buffer = both.1 }
-
-pub returns-in-BadIndex : goal.returns-in-BadIndex
-returns-in-BadIndex c =
-    let a = c.args in
-    let room : length a.out.now ≡ longest = search rules in
-    let both = line_answer a.text.now _ _ a.out.now refl c.none.ensures room _ _ refl c.translate-translated.ensures.buffer
-    c.translate-translated.ensures.answer c.in-BadIndex.is (c.refusal-in-BadIndex.ensures.length, c.refusal-in-BadIndex.ensures.buffer) in
+    let both = line_answer a.text.now _ _ a.out.now refl c.none.ensures room _ _ c.translate-translated.ensures.buffer
+    c.translate-translated.ensures.answer c.in-Err.is (c.explain.ensures.length, c.explain.ensures.buffer) in
     record { length = both.0; buffer = both.1 }

@@ -1,22 +1,22 @@
 -- What the functions give, over the types that only the code has.
-use Rattle.std.specs.Prelude.{Bool, true, false, cond, ◌&&◌, ℕ, ◌-◌, ◌*◌, ◌%◌, ◌^◌, leb}
+use Rattle.std.specs.Prelude.{Bool, true, false, cond, ◌&&◌, ℕ, ◌-◌, ◌*◌, ◌%◌, ◌^◌, leb, Option, Some, None}
 use Rattle.forms.specs.Strings.{bits}
 use Rattle.forms.specs.Calls.{hex, binary, decimal, bare, Described, unknown, known}
 use Rattle.forms.specs.declared.calls.Family.{Family}
-use Rattle.forms.specs.declared.calls.Family.TheVariants.{NoCall, Hex, Binary, Unsigned, Signed, SpacedUnsigned, SpacedSigned, Bare}
+use Rattle.forms.specs.declared.calls.Family.TheVariants.{Hex, Binary, Unsigned, Signed, SpacedUnsigned, SpacedSigned, Bare}
 use Rattle.forms.specs.declared.forms.Width.{Width}
 use Rattle.forms.specs.declared.size.Number.{Number}
 
--- the form of a family's calls
-abbrev pub form_of : Family → Described
-form_of NoCall = unknown
-form_of (Hex width) = known (hex width)
-form_of (Binary width) = known (binary width)
-form_of (Unsigned width) = known (decimal false false true width)
-form_of (Signed width) = known (decimal true false true width)
-form_of (SpacedUnsigned width) = known (decimal false true true width)
-form_of (SpacedSigned width) = known (decimal true true true width)
-form_of Bare = known bare
+-- the form of a family's calls; none where there is no family
+abbrev pub form_of : Option Family → Described
+form_of None = unknown
+form_of (Some (Hex width)) = known (hex width)
+form_of (Some (Binary width)) = known (binary width)
+form_of (Some (Unsigned width)) = known (decimal false false true width)
+form_of (Some (Signed width)) = known (decimal true false true width)
+form_of (Some (SpacedUnsigned width)) = known (decimal false true true width)
+form_of (Some (SpacedSigned width)) = known (decimal true true true width)
+form_of (Some Bare) = known bare
 
 -- the number that the low bits of a value stand for
 abbrev pub number_in : Bool → Width → ℕ → Number

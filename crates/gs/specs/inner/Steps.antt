@@ -1,6 +1,9 @@
--- How far a reference and a text come, and what a reference stands for.
-use Rattle.std.specs.Prelude.{◌≡◌, List, ◌++◌, ℕ, ◌+◌, ◌*◌, ◌≤◌, length}
+-- How far a reference and a text come, what a reference stands for, and why a text is not read at all.
+use Rattle.std.specs.Prelude.{◌≡◌, List, ◌++◌, ℕ, ◌+◌, ◌*◌, ◌≤◌, length, Result, Ok, Err}
 use Rattle.std.proofs.lemmas.List.Edits.{sets}
+use Rattle.paper.specs.Refusals.{refusal_number}
+use Rattle.paper.specs.declared.TextPlace.{TextPlace}
+use Rattle.paper.specs.declared.refusals.Refused.{Refused}
 use Rattle.paper.specs.Traces.{Trace, faults, gives, asks, spends, bytes, finished, refused, run}
 use Rattle.paper.specs.declared.faults.Fault.TheVariants as Faults
 use Rattle.forms.specs.Calls.{decimal_of}
@@ -9,10 +12,12 @@ use Rattle.variables.specs.Holdings.{part_of}
 use Rattle.gs.specs.Readings.{Expand, gives_all}
 use Rattle.references.specs.declared.Referred.{Referred}
 use Rattle.references.specs.declared.Referred.TheVariants.{Number, CodeOver255, TooBig, Unknown, Text, Integer, Macro}
-use Rattle.gs.specs.declared.steps.Progress.{Progress}
-use Rattle.gs.specs.declared.steps.Progress.TheVariants as Progresses
+use Rattle.lookups.specs.declared.NotGood.{NotGood}
+use Rattle.lookups.specs.declared.NotGood.TheVariants.{Table, Index}
+use Rattle.gs.specs.declared.NotTranslated.{NotTranslated}
+use Rattle.gs.specs.declared.NotTranslated.TheVariants.{BadTable, BadIndex}
+use Rattle.gs.specs.declared.steps.Carried.{Carried}
 use Rattle.gs.specs.declared.steps.Expanded.{Expanded}
-use Rattle.gs.specs.declared.steps.Expanded.TheVariants as Expansions
 
 -- bytes laid into a buffer at a place, where they fit; what else it then holds is nobody's concern
 pub record Laid (out : List ℕ) (to : ℕ) (given after : List ℕ) : Type 0 where
@@ -27,18 +32,19 @@ pub record Passes (piece : Trace → Trace) (left left' : ℕ) (given : List ℕ
   pub small : length given + 255 * left' ≤ 255 * left + 1
 
 -- how far a reference came
-pub data Came (piece : Trace → Trace) (left to : ℕ) (out after : List ℕ) : Progress → Type 0 where
+pub data Came (piece : Trace → Trace) (left to : ℕ) (out after : List ℕ) : Result Carried Refused → Type 0 where
   came_going : (left' : ℕ) (given : List ℕ) → Passes piece left left' given → Laid out to given after
-      → Came piece left to out after (Progresses.Going (record { to = to + length given; left = left' }))
-  came_refused : (number place : ℕ) → length after ≡ length out → ((rest : Trace) → run (piece rest) left ≡ refused number place)
-      → Came piece left to out after (Progresses.Refused number place)
+      → Came piece left to out after (Ok (record { to = to + length given; left = left' }))
+  came_refused : (r : Refused) → length after ≡ length out → ((rest : Trace) → run (piece rest) left ≡ refused (refusal_number r.why) r.at.0)
+      → Came piece left to out after (Err r)
 
 -- how far a whole text of a length came
-pub data Read (trace : Trace) (size left to : ℕ) (out after : List ℕ) : Expanded → Type 0 where
-  read_ended : (end left' : ℕ) → run trace left ≡ finished end left' → length (bytes trace) + 255 * left' ≤ 255 * left + size
-      → Laid out to (bytes trace) after → Read trace size left to out after (Expansions.Ended end (record { to = to + length (bytes trace); left = left' }))
-  read_refused : (number place : ℕ) → length after ≡ length out → run trace left ≡ refused number place
-      → Read trace size left to out after (Expansions.Refused number place)
+pub data Read (trace : Trace) (size left to : ℕ) (out after : List ℕ) : Result Expanded Refused → Type 0 where
+  read_ended : (end : TextPlace) (left' : ℕ) → run trace left ≡ finished end.0 left' → length (bytes trace) + 255 * left' ≤ 255 * left + size
+      → Laid out to (bytes trace) after
+      → Read trace size left to out after (Ok (record { end = end; carried = record { to = to + length (bytes trace); left = left' } }))
+  read_refused : (r : Refused) → length after ≡ length out → run trace left ≡ refused (refusal_number r.why) r.at.0
+      → Read trace size left to out after (Err r)
 
 -- the piece of a reading that a reference makes
 unfoldable pub piece_of : List ℕ → List ℕ → Expand → Referred → List ℕ → ℕ → Trace → Trace
@@ -60,7 +66,7 @@ length_in (Text v) = v.length
 length_in (Integer v) = v.length
 length_in (Macro v) = v.length
 
--- how far a macro's reference came, by how far its value did: a refusal inside it has the place of its "<"
-abbrev pub progress_of : Expanded → ℕ → Progress
-progress_of (Expansions.Ended end carried) place = Progresses.Going carried
-progress_of (Expansions.Refused number inner) place = Progresses.Refused number place
+-- tables or an index that are not good, as a translation tells it in a room
+abbrev pub not_good : NotGood → ℕ → NotTranslated
+not_good (Table bad) room = BadTable bad room
+not_good Index room = BadIndex room

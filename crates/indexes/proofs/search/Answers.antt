@@ -6,7 +6,7 @@ use Prim.Native.Nat.{ℕ, ◌<◌, ◌≤◌}
 use borrow.Author.Tests.{lt-ltb, le-ltb}
 use Rattle.records.specs.Records.{name_at, same_name, entry_at}
 use Rattle.variables.specs.Tables.{absent, present}
-use Rattle.variables.specs.declared.Match.TheVariants.{Record}
+use Rattle.std.specs.Prelude.{Some}
 use Rattle.indexes.specs.inner.Halving.{halvings, place_in, nearest, count_in, searched, match_in}
 use Rattle.indexes.proofs.search.Goals as goal
 
@@ -31,7 +31,7 @@ module _ (table index name : List ℕ) {count : ℕ} (so : count ≡ count_in in
 
 pub returns-then-same_name : goal.returns-then-same_name
 returns-then-same_name c =
-    ap Record c.variable_at.ensures
+    ap Some c.variable_at.ensures
     ∙ ap (match_in _)
     (found _ _ _ c.count_of-count.ensures.0 c.if-count-gt0.true c.nearest.ensures.0 c.place_at-place.ensures.0 c.name_at.ensures
     c.same_name.ensures c.if-same_name.true)

@@ -1,12 +1,11 @@
 -- The entries of an index, whatever its bytes are: the place that one holds, the search of a name by halving, and where one more is put.
-use Rattle.std.specs.Prelude.{cond, List, ◌∷◌, ◌++◌, ℕ, zero, suc, ◌+◌, ◌*◌, ◌-◌, ◌/◌, ◌%◌, ltb, length, get_or, take, drop}
+use Rattle.std.specs.Prelude.{cond, List, ◌∷◌, ◌++◌, ℕ, zero, suc, ◌+◌, ◌*◌, ◌-◌, ◌/◌, ◌%◌, ltb, length, get_or, take, drop, Option, Some, None}
 use Rattle.std.proofs.Math.Seq.{slice}
 use Rattle.paper.specs.declared.Holder.TheVariants.{House}
 use Rattle.records.specs.Records.{name_at, same_name, comes_before, entry_at}
 use Rattle.records.specs.Kinds.{variable_at}
+use Rattle.records.specs.declared.Variable.{Variable}
 use Rattle.variables.specs.Tables.{most, Sought, absent, present}
-use Rattle.variables.specs.declared.Match.{Match}
-use Rattle.variables.specs.declared.Match.TheVariants.{Record, Missing}
 
 -- an entry's place: two bytes, the low byte first
 unfoldable pub place_in : List ℕ → ℕ → ℕ
@@ -42,9 +41,9 @@ searched table index name =
     cond (ltb 0 (count_in index)) (met_at table (place_in index (nearest halvings table index name 0 (count_in index))) name) absent
 
 -- the same as the code hands it out, from the house's table
-abbrev pub match_in : List ℕ → Sought → Match
-match_in table absent = Missing
-match_in table (present e) = Record (variable_at House table e)
+abbrev pub match_in : List ℕ → Sought → Option Variable
+match_in table absent = None
+match_in table (present e) = Some (variable_at House table e)
 
 -- where one more name goes among so many entries: behind the nearest, or before all of them
 unfoldable pub slot_in : List ℕ → List ℕ → ℕ → List ℕ → ℕ

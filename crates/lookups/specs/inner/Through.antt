@@ -1,26 +1,20 @@
 -- Two tables with or without an index beside the house's, as the code goes through them: the lines of keys that are laid, and look-ups by
 -- these and by the index.
-use Rattle.std.specs.Prelude.{Bool, true, false, cond, ◌&&◌, List, [], ◌≡◌, ℕ}
+use Rattle.std.specs.Prelude.{Bool, true, false, cond, ◌&&◌, List, [], ◌≡◌, ℕ, Result, Ok, Err, is_ok}
 use Rattle.paper.specs.declared.Holder.TheVariants.{House}
+use Rattle.paper.specs.declared.refusals.BadTableOf.{BadTableOf}
 use Rattle.records.specs.Records.{same_bytes}
 use Rattle.variables.specs.Tables.{checked}
 use Rattle.variables.specs.Holdings.{Holding, held_in, or_else, sought_in_both}
 use Rattle.variables.specs.inner.Keys.{sought_by}
-use Rattle.variables.specs.declared.Match.{Match}
-use Rattle.variables.specs.declared.Match.TheVariants.{Record, Missing}
-use Rattle.variables.specs.declared.both.Judged as Tables
-use Rattle.variables.specs.declared.both.Judged.TheVariants as Of
 use Rattle.indexes.specs.Indexes.{Given, no_index, given_index, index_of}
 use Rattle.indexes.specs.inner.Halving.{searched}
-use Rattle.lookups.specs.inner.Fitting.{is_good}
-use Rattle.lookups.specs.declared.Found.{Found}
-use Rattle.lookups.specs.declared.Found.TheVariants.{At, Unknown}
-use Rattle.lookups.specs.declared.Judged.{Judged}
-use Rattle.lookups.specs.declared.Judged.TheVariants.{Good, BadTable, BadIndex}
+use Rattle.lookups.specs.declared.NotGood.{NotGood}
+use Rattle.lookups.specs.declared.NotGood.TheVariants.{Table, Index}
 
 -- the index serves: the table is good, and this is its index
 abbrev pub serves : List ℕ → List ℕ → Bool
-serves house index = is_good (checked house) && same_bytes index (index_of house)
+serves house index = is_ok (checked house) && same_bytes index (index_of house)
 
 -- the house's records whose lines are laid: all of them, or where an index serves, none
 abbrev pub to_lay : List ℕ → Given → List ℕ
@@ -33,14 +27,14 @@ bytes_given no_index = []
 bytes_given (given_index index) = index
 
 -- what was found of the tables decides; then whether the index fits. So many lines are laid
-abbrev pub lines_of : Tables.Judged → ℕ
-lines_of (Of.Good count) = count
-lines_of (Of.BadTable number holder at) = 0
+abbrev pub lines_of : Result ℕ BadTableOf → ℕ
+lines_of (Ok count) = count
+lines_of (Err bad) = 0
 
-abbrev pub judged_by : Tables.Judged → Bool → ℕ → Judged
-judged_by (Of.BadTable number holder at) fit lines = BadTable number holder at
-judged_by (Of.Good count) false lines = BadIndex
-judged_by (Of.Good count) true lines = Good lines
+abbrev pub judged_by : Result ℕ BadTableOf → Bool → ℕ → Result ℕ NotGood
+judged_by (Err bad) fit lines = Err (Table bad)
+judged_by (Ok count) false lines = Err Index
+judged_by (Ok count) true lines = Ok lines
 
 -- a name sought by keys, and then through an index, whatever these are
 abbrev pub sought_through : List ℕ → List ℕ → List ℕ → List ℕ → List ℕ → Holding
@@ -49,8 +43,3 @@ sought_through farm house keys index name = or_else (sought_by farm house keys n
 -- these keys and this index lead to what names mean in two tables: what a function asks that looks names up by them
 abbrev pub Leads : List ℕ → List ℕ → List ℕ → List ℕ → Type 0
 Leads farm house keys index = (name : List ℕ) → sought_through farm house keys index name ≡ sought_in_both farm house name
-
--- what a look-up comes to in good tables
-abbrev pub in_good_tables : Match → Found
-in_good_tables (Record v) = At v
-in_good_tables Missing = Unknown

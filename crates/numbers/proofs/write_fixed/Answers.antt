@@ -9,12 +9,12 @@ use Rattle.numbers.proofs.write_fixed.Goals as goal
 
 pub returns : goal.returns
 returns c =
-    let start = c.before.before.before.before.before.before in
-    let a = start.args in
+    let a = c.args in
     let low = c.low_bits in
     let number : Number = record { negative = false; magnitude = low.result } in
     let same : number ≡ number_in false a.width a.value = λ i. record { negative = false; magnitude = low.ensures i } in
+    let made = converted (fixed a.base a.width) a.value number a.count same c.requires a.buf.now (c.write.ensures.answer, c.write.ensures.buffer) in
     record {
-      answer = (converted (fixed a.base a.width) a.value number a.digits same start.requires a.buf.now (c.write_number.ensures.answer, c.write_number.ensures.buffer)).0;
-      buffer = (converted (fixed a.base a.width) a.value number a.digits same start.requires a.buf.now (c.write_number.ensures.answer, c.write_number.ensures.buffer)).1;
+      answer = made.0;
+      buffer = made.1;
     }

@@ -10,14 +10,16 @@ use lib.ListN.{length, get_or, drop}
 use Rattle.paper.specs.Refusals.{longest}
 use Rattle.paper.specs.Bytes.{space, spaces}
 use Rattle.paper.proofs.Runs.{run_short}
-use Rattle.reader.specs.declared.Reading.{Reading}
+use Rattle.std.specs.Prelude.{Result}
+use Rattle.paper.specs.declared.refusals.Refused.{Refused}
+use Rattle.reader.specs.declared.Number.{Number}
 use Rattle.reader.specs.Reading.{run, worth, judged, in_base, marked, numbered, reading}
 use Rattle.reader.specs.inner.Steps.{cut}
 use Rattle.reader.proofs.Laws.{run_within, cut_judged, cut_in_base}
 use Rattle.reader.proofs.read_unsigned.Goals as goal
 
 -- with no "&" at the start, the decimal digits there, which end at `end` and are worth `value`, cut, are a base or the number
-abbrev split : List ℕ → Bool → ℕ → ℕ → ℕ → ℕ → Reading
+abbrev split : List ℕ → Bool → ℕ → ℕ → ℕ → ℕ → Result Number Refused
 split text whole limit start end value =
     cond (marked text start end) (in_base text whole limit start (end + 1) value) (judged text whole limit start start end value)
 

@@ -9,13 +9,13 @@ use native.Mathlib.Numerals.{add-one}
 use native.Mathlib.Omega.{arith}
 use borrow.Author.Tests.{le-leb, lt-leb}
 use lib.ListN.{length, length-set}
-use Rattle.paper.specs.Refusals.{bad_table}
+use Rattle.std.specs.Prelude.{Result, Ok}
+use Rattle.paper.specs.declared.refusals.BadTable.{BadTable}
+use Rattle.paper.specs.declared.refusals.Refusal.TheVariants as Why
 use Rattle.paper.specs.declared.Holder.{Holder}
 use Rattle.records.specs.Records.{next_place}
 use Rattle.variables.specs.Tables.{sound, bad_table_at, scanned, most, before}
 use Rattle.variables.specs.inner.Keys.{lines_of, laid_over, passed_lines}
-use Rattle.variables.specs.declared.Checked.{Checked}
-use Rattle.variables.specs.declared.Checked.TheVariants.{Good}
 use Rattle.variables.proofs.Good.{next_inside}
 use Rattle.variables.proofs.Lines.{key_of_line}
 use Rattle.variables.proofs.NoteLaws.{none_noted, noted_more, noted_part}
@@ -23,18 +23,18 @@ use Rattle.variables.proofs.Passed.{at_first, passed_part, passed_more}
 use Rattle.variables.proofs.scan.Goals as goal
 
 module _ (table : List ℕ) (count place : ℕ) where
-  abbrev rest : Checked
+  abbrev rest : Result ℕ BadTable
   rest = scanned (most - count) count table place
 
-  at_end : length table ≤ place → Good count ≡ rest
+  at_end : length table ≤ place → Ok count ≡ rest
   unfolding scanned
   at_end h = go (most - count) where
-    go : (left : ℕ) → Good count ≡ scanned left count table place
+    go : (left : ℕ) → Ok count ≡ scanned left count table place
     go zero = rw (le-leb (length table) place h)
     go (suc left) = rw (le-leb (length table) place h)
 
   module _ (h : place < length table) where
-    full : count ≡ most → bad_table_at bad_table place ≡ rest
+    full : count ≡ most → bad_table_at Why.BadTable place ≡ rest
     unfolding scanned
     full e =
         let l : most - count ≡ 0 = omega arith in
@@ -44,7 +44,7 @@ module _ (table : List ℕ) (count place : ℕ) where
       left : most - count ≡ suc (most - (count + 1))
       left = omega arith
 
-      bad : sound table place ≡ false → bad_table_at bad_table place ≡ rest
+      bad : sound table place ≡ false → bad_table_at Why.BadTable place ≡ rest
       unfolding scanned
       bad e = rw (left, lt-leb (length table) place h, e)
 
@@ -53,7 +53,7 @@ module _ (table : List ℕ) (count place : ℕ) where
       more e q = rw (left, lt-leb (length table) place h, e, q, add-one)
 
 -- a refusal's place is how far the check came
-laid_to : (holder : Holder) (table keys : List ℕ) (place : ℕ) {r : Checked} → r ≡ bad_table_at bad_table place →
+laid_to : (holder : Holder) (table keys : List ℕ) (place : ℕ) {r : Result ℕ BadTable} → r ≡ bad_table_at Why.BadTable place →
     laid_over (lines_of holder (before table place)) keys ≡ laid_over (passed_lines holder table r) keys
 laid_to holder table keys place e = ap (λ r. laid_over (passed_lines holder table r) keys) (sym e)
 
@@ -72,7 +72,7 @@ returns-then-table-eq0 c =
     }
 
 pub loop-place-init : goal.loop-place-init
-loop-place-init c = (omega arith, omega arith, omega arith, omega arith, refl, at_first _ _ _, none_noted _ _ refl)
+loop-place-init c = (omega arith, omega arith, omega arith, omega arith, refl, at_first _ _ _, none_noted _ _)
 
 pub shape_of-keys-then-count-eq-MOST_RECORDS : goal.shape_of-keys-then-count-eq-MOST_RECORDS
 shape_of-keys-then-count-eq-MOST_RECORDS c = omega arith
@@ -109,7 +109,7 @@ bounds-keys-count c = omega arith
 
 pub overflow_cast-next : goal.overflow_cast-next
 overflow_cast-next c =
-    let sound-here = sym c.is_sound.ensures ∙ c.if-is_sound.true in
+    let sound-here = sym c.is_sound.ensures ∙ c.if-not-is_sound.false in
     omega (arith, next_inside _ _ sound-here)
 
 pub overflow_add-count : goal.overflow_add-count
@@ -122,7 +122,7 @@ pub loop-place-preserved : goal.loop-place-preserved
 loop-place-preserved c =
     let i = c.loop-place.invariant in
     let few : c.loop-place.count < most = omega arith in
-    let sound-here = sym c.is_sound.ensures ∙ c.if-is_sound.true in
+    let sound-here = sym c.is_sound.ensures ∙ c.if-not-is_sound.false in
     let on = more _ _ _ c.loop-place-test.true i.0 c.if-count-eq-MOST_RECORDS.false sound-here c.next_place-next.ensures in (
       omega arith,
       omega (arith, next_inside _ _ sound-here),
@@ -130,20 +130,20 @@ loop-place-preserved c =
       length-set c.loop-place.keys c.loop-place.count _ ∙ i.3,
       i.4 ∙ on,
       passed_more _ _ _ i.5 few i.2 c.line_at-line.ensures c.next_place-next.ensures,
-      noted_more _ _ _ _ (omega arith) i.6 c.note.ensures,
+      noted_more _ _ _ _ (omega arith) i.6 _ c.note.ensures,
     )
 
-pub shape_of-keys-else-is_sound : goal.shape_of-keys-else-is_sound
-shape_of-keys-else-is_sound c = omega arith
+pub shape_of-keys-then-not-is_sound : goal.shape_of-keys-then-not-is_sound
+shape_of-keys-then-not-is_sound c = omega arith
 
-pub returns-else-is_sound : goal.returns-else-is_sound
-returns-else-is_sound c =
+pub returns-then-not-is_sound : goal.returns-then-not-is_sound
+returns-then-not-is_sound c =
     let i = c.loop-place.invariant in
     record {
-      answer = c.bad_table-else-is_sound.ensures
-          ∙ bad _ _ _ c.loop-place-test.true i.0 c.if-count-eq-MOST_RECORDS.false (sym c.is_sound.ensures ∙ c.if-is_sound.false)
+      answer = c.bad_table-then-not-is_sound.ensures
+          ∙ bad _ _ _ c.loop-place-test.true i.0 c.if-count-eq-MOST_RECORDS.false (sym c.is_sound.ensures ∙ c.if-not-is_sound.true)
           ∙ sym i.4;
-      keys = i.5.laid ∙ laid_to c.args.holder _ c.args.keys.now _ c.bad_table-else-is_sound.ensures;
+      keys = i.5.laid ∙ laid_to c.args.holder _ c.args.keys.now _ c.bad_table-then-not-is_sound.ensures;
     }
 
 pub shape_of-keys : goal.shape_of-keys

@@ -1,17 +1,15 @@
 -- The keys of tables' records: a line for each, of its place, a mark of the table that holds it and a key of its name.
-use Rattle.std.specs.Prelude.{Bool, true, false, cond, ◌&&◌, List, [], ◌∷◌, ◌++◌, map, ◌≡◌, ℕ, ◌+◌, ◌*◌, ◌/◌, ◌%◌, ◌<◌, ◌≤◌, eqb, ltb, length, get_or, drop}
+use Rattle.std.specs.Prelude.{Bool, cond, ◌&&◌, List, [], ◌∷◌, ◌++◌, map, ◌≡◌, ℕ, ◌+◌, ◌*◌, ◌/◌, ◌%◌, ◌<◌, ◌≤◌, eqb, ltb, length, get_or, drop, Option, Some, None, Result, Ok, Err}
 use Rattle.paper.specs.declared.Holder.{Holder}
 use Rattle.paper.specs.declared.Holder.TheVariants.{Farm, House}
 use Rattle.records.specs.Records.{same_name, Entry, entry_at}
 use Rattle.records.specs.Kinds.{variable_at}
+use Rattle.records.specs.declared.Variable.{Variable}
 use Rattle.records.specs.inner.Keys.{key_of}
 use Rattle.paper.specs.Refusals.{too_long}
+use Rattle.paper.specs.declared.refusals.BadTable.{BadTable}
 use Rattle.variables.specs.Tables.{before, records_of, scan}
 use Rattle.variables.specs.Holdings.{held_by, Holding, nowhere, held}
-use Rattle.variables.specs.declared.Checked.{Checked}
-use Rattle.variables.specs.declared.Checked.TheVariants.{Good, BadTable}
-use Rattle.variables.specs.declared.Match.{Match}
-use Rattle.variables.specs.declared.Match.TheVariants.{Record, Missing}
 
 abbrev pub mark_of : Holder → ℕ
 mark_of Farm = 32768
@@ -36,12 +34,12 @@ abbrev pub LinesBefore : List ℕ → ℕ → List ℕ → Type 0
 LinesBefore table place keys = (holder : Holder) × (keys ≡ lines_of holder (before table place))
 
 -- how far a check came
-abbrev pub reach : List ℕ → Checked → ℕ
-reach table (Good count) = length table
-reach table (BadTable number at) = at.0
+abbrev pub reach : List ℕ → Result ℕ BadTable → ℕ
+reach table (Ok count) = length table
+reach table (Err bad) = bad.at.0
 
 -- the lines of the records that a check passed
-abbrev pub passed_lines : Holder → List ℕ → Checked → List ℕ
+abbrev pub passed_lines : Holder → List ℕ → Result ℕ BadTable → List ℕ
 passed_lines holder table r = lines_of holder (before table (reach table r))
 
 -- lines at the start of a lent array; what is behind them stays
@@ -49,9 +47,9 @@ abbrev pub laid_over : List ℕ → List ℕ → List ℕ
 laid_over lines keys = lines ++ drop (length lines) keys
 
 -- the lines behind the farm's, where all of those are passed
-abbrev pub behind_farm : Checked → List ℕ → List ℕ
-behind_farm (Good count) lines = lines
-behind_farm (BadTable number at) lines = []
+abbrev pub behind_farm : Result ℕ BadTable → List ℕ → List ℕ
+behind_farm (Ok count) lines = lines
+behind_farm (Err bad) lines = []
 
 -- the lines of all records that the scans of two tables pass
 abbrev pub both_lines : List ℕ → List ℕ → List ℕ
@@ -84,10 +82,6 @@ pub record Without (key : ℕ) (keys : List ℕ) (stop : ℕ) : Type 0 where
   pub inside : stop ≤ length keys
   pub passes : (k : ℕ) → k < stop → get_or keys k 0 % 32768 ≡ key → ⊥
 
-abbrev pub match_as : List ℕ → List ℕ → Holding → Match
-match_as farm house nowhere = Missing
-match_as farm house (held holder e) = Record (variable_at holder (held_by holder farm house) e)
-
-abbrev pub no_match : Match → Bool
-no_match Missing = true
-no_match (Record v) = false
+abbrev pub match_as : List ℕ → List ℕ → Holding → Option Variable
+match_as farm house nowhere = None
+match_as farm house (held holder e) = Some (variable_at holder (held_by holder farm house) e)

@@ -1,58 +1,35 @@
 // `conv CALL VALUE ROOM`: a conversion by its call's number.
+use crate::answers::Place;
+use crate::cases::rooms::{refused, written};
+use crate::fields::Case;
+use crate::frame;
 use crate::frame::FILLER;
-use crate::{answers, fields, frame, slices};
 use paper::layings::Converted;
 
-pub(crate) fn answer(rt: &impl Print, line: &[u8], lent: &mut [u8]) {
-    let call = fields::number(line, 1);
-    let value = fields::number(line, 2);
-    let room = fields::number(line, 3);
-    let converted = numbers::convert(call, value, frame::room(lent, room));
-    show(rt, converted, behind(call), frame::framed(lent, room));
+pub(crate) fn answer(rt: &impl Print, case: Case<'_>, lent: &mut [u8]) {
+    let call = case.number(1);
+    let value = case.number(2);
+    let framed = frame::framed(lent, case.number(3));
+    let converted = numbers::convert(call, value, frame::room(framed));
+    show(rt, converted, behind(call), framed);
 }
 
 // What is to stand behind the string: a zero byte, or where &28 and its X form have none what stood there. The case says it, and not
 // the answer.
 fn behind(call: u32) -> u8 {
-    if call == 0x28 {
-        return FILLER;
+    match call {
+        0x28 | 0x20028 => FILLER,
+        _ => 0,
     }
-    if call == 0x20028 {
-        return FILLER;
-    }
-    0
 }
 
 // The answer to a conversion, of a number or of a date.
 pub(crate) fn show(rt: &impl Print, converted: Converted, behind: u8, framed: &[u8]) {
     match converted {
-        Converted::Written {
-            offset,
-            need: _,
-            free,
-        } => written(rt, offset, free, behind, framed),
-        Converted::Refused {
-            number,
-            at,
-            need,
-            free,
-        } => refused(rt, number, at.0, need, free, framed),
+        Ok(string) => written(rt, string.offset, string.free, behind, framed),
+        Err(not) => {
+            let place = Place::Bare(not.at.0);
+            refused(rt, not.why, place, not.need, not.free, framed)
+        }
     }
-}
-
-// `ok STRHEX OFFSET FREE`
-fn written(rt: &impl Print, offset: usize, free: usize, behind: u8, framed: &[u8]) {
-    answers::word(rt, b"ok");
-    answers::hex(rt, slices::part(framed, 0, offset));
-    answers::number(rt, offset);
-    answers::number(rt, free);
-    frame::watch(rt, slices::part(framed, offset, framed.len()), behind);
-}
-
-// `no N PLACE NEED FREE`
-fn refused(rt: &impl Print, number: u8, place: usize, need: usize, free: usize, framed: &[u8]) {
-    answers::refusal_at(rt, number, place);
-    answers::number(rt, need);
-    answers::number(rt, free);
-    frame::watch(rt, framed, FILLER);
 }

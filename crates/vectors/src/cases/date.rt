@@ -1,9 +1,11 @@
 // `date TIMEHEX FORMATHEX ROOM`: a time's conversion by a format.
 use crate::cases::conv;
-use crate::{fields, frame};
+use crate::fields::Case;
+use crate::frame;
 
-pub(crate) fn answer(rt: &impl Print, line: &[u8], time: &[u8], format: &[u8], lent: &mut [u8]) {
-    let room = fields::number(line, 3);
-    let converted = dates::convert_date(time, format, frame::room(lent, room));
-    conv::show(rt, converted, 0, frame::framed(lent, room));
+pub(crate) fn answer(rt: &impl Print, case: Case<'_>, lent: &mut [u8]) {
+    let [time, format, _, _] = case.bytes;
+    let framed = frame::framed(lent, case.number(3));
+    let converted = dates::convert_date(time, format, frame::room(framed));
+    conv::show(rt, converted, 0, framed);
 }

@@ -1,27 +1,27 @@
 // `eval TEXTHEX FARMHEX HOUSEHEX ALLOWANCE`: the value of an expression over two tables.
-use crate::{answers, fields};
-use expressions::Evaluated;
+use crate::answers;
+use crate::answers::Place;
+use crate::fields::Case;
+use expressions::{NotEvaluated, Value};
+use variables::both::Tables;
 
-pub(crate) fn answer<'a>(
-    rt: &impl Print,
-    line: &[u8],
-    text: &[u8],
-    farm: &'a [u8],
-    house: &'a [u8],
-) {
-    let evaluated = expressions::evaluate(text, farm, house, fields::number(line, 4));
+pub(crate) fn answer(rt: &impl Print, case: Case<'_>) {
+    let [text, farm, house, _] = case.bytes;
+    let tables = Tables { farm, house };
+    let evaluated = expressions::evaluate(text, &tables, case.number(4));
     match evaluated {
-        Evaluated::Value { pattern, end } => value(rt, pattern, end.0),
-        Evaluated::Refused { number, at } => answers::refusal_in(rt, number, b't', at.0),
-        Evaluated::BadTable { number, holder, at } => {
-            answers::refusal_in(rt, number, answers::letter_of(holder), at.0)
+        Ok(Value { pattern, end }) => value(rt, pattern, end.0),
+        Err(NotEvaluated::Refused(refused)) => {
+            answers::refusal(rt, refused.why, Place::InText(refused.at))
+        }
+        Err(NotEvaluated::BadTable(bad)) => {
+            answers::refusal(rt, bad.why, Place::InTable(bad.holder, bad.at))
         }
     }
 }
 
 // `int VALUE END`
 fn value(rt: &impl Print, pattern: u32, end: usize) {
-    answers::word(rt, b"int");
-    answers::signed(rt, pattern);
-    answers::number(rt, end);
+    let signed = pattern.cast_signed();
+    let _ = print!(rt; "int {signed} {end}");
 }

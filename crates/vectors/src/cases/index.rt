@@ -1,44 +1,30 @@
 // `index TABLEHEX ROOM`: the index of a table.
+use crate::answers::Place;
+use crate::cases::rooms::{refused, written};
+use crate::fields::Case;
+use crate::frame;
 use crate::frame::FILLER;
-use crate::{answers, fields, frame, slices};
-use indexes::building::{Built, build_index};
-use paper::NO_ROOM;
+use indexes::building::{Built, NotBuilt, build_index};
+use paper::refusals::Refusal;
+use paper::{Holder, TextPlace};
 
-pub(crate) fn answer(rt: &impl Print, line: &[u8], table: &[u8], lent: &mut [u8]) {
-    let room = fields::number(line, 2);
-    let built = build_index(table, frame::room(lent, room));
-    show(rt, built, frame::framed(lent, room));
+pub(crate) fn answer(rt: &impl Print, case: Case<'_>, lent: &mut [u8]) {
+    let [table, ..] = case.bytes;
+    let framed = frame::framed(lent, case.number(2));
+    let built = build_index(table, frame::room(framed));
+    show(rt, built, framed);
 }
 
-fn show(rt: &impl Print, built: Built, framed: &[u8]) {
+fn show(rt: &impl Print, built: Result<Built, NotBuilt>, framed: &[u8]) {
     match built {
-        Built::Written { need, free } => written(rt, need, free, framed),
-        Built::NoRoom { need, free } => refused(rt, NO_ROOM, b't', 0, need, free, framed),
-        Built::NotGood { number, at, free } => refused(rt, number, b'h', at.0, 0, free, framed),
+        Ok(Built { need, free }) => written(rt, need, free, FILLER, framed),
+        Err(NotBuilt::NoRoom { need, free }) => {
+            let place = Place::InText(TextPlace(0));
+            refused(rt, Refusal::NoRoom, place, need, free, framed)
+        }
+        Err(NotBuilt::BadTable { bad, free }) => {
+            let place = Place::InTable(Holder::House, bad.at);
+            refused(rt, bad.why, place, 0, free, framed)
+        }
     }
-}
-
-// `ok INDEXHEX NEED FREE`
-fn written(rt: &impl Print, need: usize, free: usize, framed: &[u8]) {
-    answers::word(rt, b"ok");
-    answers::hex(rt, slices::part(framed, 0, need));
-    answers::number(rt, need);
-    answers::number(rt, free);
-    frame::watch(rt, slices::part(framed, need, framed.len()), FILLER);
-}
-
-// `no N W PLACE NEED FREE`
-pub(crate) fn refused(
-    rt: &impl Print,
-    number: u8,
-    counted: u8,
-    place: usize,
-    need: usize,
-    free: usize,
-    framed: &[u8],
-) {
-    answers::refusal_in(rt, number, counted, place);
-    answers::number(rt, need);
-    answers::number(rt, free);
-    frame::watch(rt, framed, FILLER);
 }

@@ -1,65 +1,67 @@
 // `look FARMHEX HOUSEHEX NAMEHEX`: what a name means in two tables. `flook FARMHEX HOUSEHEX INDEX NAMEHEX`: the same with the house's index,
 // or `x` where none is given. `ilook TABLEHEX INDEXHEX NAMEHEX`: the same in one table alone, the house's.
 use crate::answers;
-use lookups::Found;
-use paper::BAD_INDEX;
+use crate::answers::{Hex, Place};
+use crate::fields::Case;
+use lookups::NotGood;
+use paper::refusals::Refusal;
 use records::Variable;
+use variables::both::Tables;
 
-pub(crate) fn answer<'a>(rt: &impl Print, farm: &'a [u8], house: &'a [u8], name: &[u8]) {
-    answer_in_both(rt, farm, house, &house[..0], false, name)
+pub(crate) fn answer(rt: &impl Print, case: Case<'_>) {
+    let [farm, house, name, _] = case.bytes;
+    answer_in(rt, &Tables { farm, house }, None, name, true)
 }
 
-pub(crate) fn answer_in_both<'a>(
-    rt: &impl Print,
-    farm: &'a [u8],
-    house: &'a [u8],
-    index: &[u8],
-    indexed: bool,
-    name: &[u8],
-) {
-    match lookups::look_up(farm, house, index, indexed, name) {
-        Found::At(v) => {
-            let holder = v.holder;
-            answers::word(rt, b"rec ");
-            answers::letter(rt, answers::letter_of(holder));
-            rest_of(
-                rt,
-                v,
-                lookups::look_up_value(farm, house, index, indexed, name),
-            )
-        }
-        Found::Unknown => answers::word(rt, b"none"),
-        Found::BadTable { number, holder, at } => {
-            answers::refusal_in(rt, number, answers::letter_of(holder), at.0)
-        }
-        Found::BadIndex => answers::refusal_in(rt, BAD_INDEX, b'i', 0),
-    }
+pub(crate) fn answer_in_both(rt: &impl Print, case: Case<'_>) {
+    let [farm, house, index, name] = case.bytes;
+    let index = case.is_given(3).then_some(index);
+    answer_in(rt, &Tables { farm, house }, index, name, true)
 }
 
 // One table has no letter in `rec PLACE KIND VALUEHEX`.
-pub(crate) fn answer_through<'a>(rt: &impl Print, table: &'a [u8], index: &'a [u8], name: &[u8]) {
-    match lookups::look_up(&table[..0], table, index, true, name) {
-        Found::At(v) => {
-            answers::word(rt, b"rec");
-            rest_of(
-                rt,
-                v,
-                lookups::look_up_value(&table[..0], table, index, true, name),
-            )
+pub(crate) fn answer_through(rt: &impl Print, case: Case<'_>) {
+    let [table, index, name, _] = case.bytes;
+    let tables = Tables {
+        farm: &table[..0],
+        house: table,
+    };
+    answer_in(rt, &tables, Some(index), name, false)
+}
+
+// `lettered` is whether a record's line says in which table it stands.
+fn answer_in(
+    rt: &impl Print,
+    tables: &Tables<'_>,
+    index: Option<&[u8]>,
+    name: &[u8],
+    lettered: bool,
+) {
+    match lookups::look_up(tables, index, name) {
+        Ok(Some(v)) => {
+            let value = lookups::look_up_value(tables, index, name);
+            record(rt, v, value, lettered)
         }
-        Found::Unknown => answers::word(rt, b"none"),
-        Found::BadTable { number, holder, at } => {
-            answers::refusal_in(rt, number, answers::letter_of(holder), at.0)
+        Ok(None) => unknown(rt),
+        Err(NotGood::Table(bad)) => {
+            answers::refusal(rt, bad.why, Place::InTable(bad.holder, bad.at))
         }
-        Found::BadIndex => answers::refusal_in(rt, BAD_INDEX, b'i', 0),
+        Err(NotGood::Index) => answers::refusal(rt, Refusal::BadIndex, Place::InIndex),
     }
 }
 
-// ` PLACE KIND VALUEHEX`
-fn rest_of(rt: &impl Print, v: Variable, value: &[u8]) {
-    let at = v.at;
-    let kind = v.kind;
-    answers::number(rt, at.0);
-    answers::number(rt, kind.number() as usize);
-    answers::hex(rt, value);
+// `rec W PLACE KIND VALUEHEX`
+fn record(rt: &impl Print, v: Variable, value: &[u8], lettered: bool) {
+    let place = if lettered {
+        Place::InTable(v.holder, v.at)
+    } else {
+        Place::Bare(v.at.0)
+    };
+    let kind = v.kind.number();
+    let value = Hex(value);
+    let _ = print!(rt; "rec {place} {kind} {value}");
+}
+
+fn unknown(rt: &impl Print) {
+    let _ = print!(rt; "none");
 }

@@ -1,19 +1,19 @@
 // `read TEXTHEX WHOLE LIMIT`: the unsigned reader on a text.
-use crate::{answers, fields};
-use reader::Reading;
+use crate::answers;
+use crate::answers::Place;
+use crate::fields::Case;
 
-pub(crate) fn answer(rt: &impl Print, line: &[u8], text: &[u8]) {
-    let whole = fields::number(line, 2) == 1;
-    let reading = reader::read_unsigned(text, whole, fields::number(line, 3));
+pub(crate) fn answer(rt: &impl Print, case: Case<'_>) {
+    let [text, ..] = case.bytes;
+    let whole = case.number(2) == 1;
+    let reading = reader::read_unsigned(text, whole, case.number(3));
     match reading {
-        Reading::Value(number) => value(rt, number.value as usize, number.end.0),
-        Reading::Refused { number, at } => answers::refusal_at(rt, number, at.0),
+        Ok(number) => value(rt, number.value as usize, number.end.0),
+        Err(refused) => answers::refusal(rt, refused.why, Place::Bare(refused.at.0)),
     }
 }
 
 // `val VALUE PLACE`
 fn value(rt: &impl Print, number: usize, place: usize) {
-    answers::word(rt, b"val");
-    answers::number(rt, number);
-    answers::number(rt, place);
+    let _ = print!(rt; "val {number} {place}");
 }

@@ -1,17 +1,18 @@
 // `table TABLEHEX`: whether a table is good.
 use crate::answers;
-use variables::Checked;
+use crate::answers::Place;
+use crate::fields::Case;
 
-pub(crate) fn answer(rt: &impl Print, table: &[u8]) {
+pub(crate) fn answer(rt: &impl Print, case: Case<'_>) {
+    let [table, ..] = case.bytes;
     let checked = variables::check_table(table);
     match checked {
-        Checked::Good(count) => good(rt, count),
-        Checked::BadTable { number, at } => answers::refusal_at(rt, number, at.0),
+        Ok(count) => good(rt, count),
+        Err(bad) => answers::refusal(rt, bad.why, Place::Bare(bad.at.0)),
     }
 }
 
 // `ok COUNT`
 fn good(rt: &impl Print, count: usize) {
-    answers::word(rt, b"ok");
-    answers::number(rt, count);
+    let _ = print!(rt; "ok {count}");
 }

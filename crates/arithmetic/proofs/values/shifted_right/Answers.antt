@@ -1,38 +1,23 @@
--- `shifted_right` meets its contract: a negative number is shifted as its complement.
-use Rattle.std.proofs.Common.{◌≡◌, ℕ, ◌-◌, ◌/◌, ◌^◌, ◌<◌, Bool, true, false, cond, ltb, ℤ, pos, negsuc, sym, refl, ap, ◌∙◌, zero-le, div-le_self, arith, le-ltb}
-use lib.Signed.{lt_z, shr_z}
-use Rattle.arithmetic.specs.Values.{wrapped, truth, shifted_right, shifted_right_unsigned}
-use Rattle.arithmetic.proofs.Signs.{if-negative, if-positive}
+-- `shifted_right` meets its contract: the number is shifted as the language does, and by 32 or more its sign alone is left.
+use Rattle.std.proofs.Common.{rules, SFits, lt_of_le_of_lt, ◌^◌, int_lt, pos, ap, ◌∙◌, arith, w32, to_z, of_z}
+use lib.Signed.{shr_z, mag_shr}
+use Rattle.paper.proofs.Choice.{below, not_below}
+use Rattle.arithmetic.specs.Values.{wrapped, truth, shifted_right}
+use Rattle.arithmetic.proofs.Signs.{cast_again, cast_back}
 use Rattle.arithmetic.proofs.values.shifted_right.Goals as goal
 
--- what the definition gives, by its test of the amount, the number and the power of two
-abbrev shifted : Bool → ℤ → ℕ → ℕ
-shifted small z m = cond small (wrapped (shr_z z m)) (truth (lt_z z (pos 0)))
-
-complement : (small : Bool) (n m : ℕ) → n < 4294967296 → 4294967295 - cond small (n / m) 0 ≡ shifted small (negsuc n) m
-complement true n m fits = omega (arith, div-le_self n m)
-complement false n m fits = refl
-
-pub returns-then-is_negative : goal.returns-then-is_negative
-unfolding shifted_right shifted_right_unsigned
-returns-then-is_negative c =
-    let v = c.args.v in
-    let by = c.args.by in
-    ap (λ s. 4294967295 - s) c.shifted_right_unsigned.ensures
-    ∙ if-negative (λ z. 4294967295 - shifted_right_unsigned (4294967295 - v) by ≡ shifted (ltb by 32) z (2 ^ by)) v
-    (sym c.is_negative.ensures ∙ c.if-is_negative.true)
-    (λ _. complement (ltb by 32) (4294967295 - v) (2 ^ by) (omega arith))
-
-itself : (small : Bool) (n m : ℕ) → n < 4294967296 → cond small (n / m) 0 ≡ shifted small (pos n) m
-itself true n m fits = omega (arith, div-le_self n m)
-itself false n m fits = rw (le-ltb n 0 zero-le)
+pub returns-then-by-lt32 : goal.returns-then-by-lt32
+unfolding shifted_right
+returns-then-by-lt32 c =
+    let a = c.args in
+    let v = to_z w32 (of_z w32 c.cast_signed.result) in
+    let f : SFits w32 v = search rules in
+    below _ _ _ _ c.if-by-lt32.true
+    (c.cast_unsigned.ensures ∙ cast_back (shr_z v (2 ^ a.by)) (lt_of_le_of_lt (mag_shr v (2 ^ a.by)) f.sfits)
+    ∙ ap (λ z. wrapped (shr_z z (2 ^ a.by))) (cast_again a.v _ (omega arith) c.cast_signed.ensures))
 
 pub returns : goal.returns
-unfolding shifted_right shifted_right_unsigned
+unfolding shifted_right
 returns c =
-    let v = c.args.v in
-    let by = c.args.by in
-    c.shifted_right_unsigned-2.ensures
-    ∙ if-positive (λ z. shifted_right_unsigned v by ≡ shifted (ltb by 32) z (2 ^ by)) v
-    (sym c.is_negative.ensures ∙ c.if-is_negative.false)
-    (λ low. itself (ltb by 32) v (2 ^ by) (omega arith))
+    not_below _ _ _ _ c.if-by-lt32.false
+    (c.truth.ensures ∙ ap (λ z. truth (int_lt z (pos 0))) (cast_again c.args.v _ (omega arith) c.cast_signed-2.ensures))

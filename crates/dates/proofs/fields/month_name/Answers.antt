@@ -1,5 +1,5 @@
 -- `month_name` meets its contract: each arm is a name of the list, and no other month has one.
-use mathlib.Core.Path.{◌∙◌, sym}
+use mathlib.Core.Path.{sym}
 use Prim.Native.Nat.{◌-◌, ◌≤◌}
 use native.Mathlib.Omega.{arith}
 use Rattle.dates.specs.Fields.{month_names}
@@ -10,4 +10,4 @@ pub returns-in_default : goal.returns-in_default
 returns-in_default c =
     let month = c.args.month in
     let more : 13 ≤ month = omega arith in
-    c.name-in_default.ensures ∙ sym (unnamed month_names (month - 1) (omega arith))
+    sym (unnamed month_names (month - 1) (omega arith))

@@ -1,33 +1,33 @@
--- `expand` and `follow` meet their contracts: a level of a text calls a reference, and a macro's reference a level deeper.
-use mathlib.Core.Path.{◌≡◌, ap, sym, subst, ◌∙◌}
+-- `expand`, `follow` and `spell` meet their contracts: a level of a text calls a reference, that a macro's value, and this a level deeper.
+use mathlib.Core.Path.{◌≡◌, sym, subst, ◌∙◌}
 use mathlib.Core.Bool.{Bool}
 use mathlib.Core.List.{List}
-use Prim.Native.Nat.{ℕ, ◌+◌, ◌-◌, ◌≤◌}
+use Prim.Native.Nat.{ℕ, ◌+◌, ◌-◌}
 use native.Mathlib.Omega.{arith}
-use lib.ListN.{length, get_or, take, drop, length-take}
-use Rattle.variables.proofs.Bounds.{all_bytes}
+use lib.ListN.{length, take, drop}
 use Rattle.variables.specs.Names.{Meaning, names_of}
-use Rattle.variables.specs.Holdings.{held_by, part_of}
 use Rattle.paper.specs.Bytes.{run_of}
-use Rattle.lookups.specs.inner.Through.{Leads}
 use Rattle.runs.specs.Plain.{plain_byte, also_ends}
 use Rattle.runs.specs.Output.{laid_at}
 use Rattle.runs.specs.inner.Stretches.{Stretch}
 use Rattle.runs.proofs.StretchLaws.{run_stretch}
-use Rattle.records.specs.declared.Variable.{Variable}
-use Rattle.references.specs.References.{referred_in, referred_by}
+use Rattle.references.specs.References.{referred_in}
 use Rattle.references.specs.declared.Referred.{Referred}
-use Rattle.references.proofs.Resolved.{as_led}
 use Rattle.symbols.specs.Symbols.{symbol_at, ending_space}
 use Rattle.symbols.specs.declared.forms.Mode.{Mode}
 use Rattle.symbols.specs.declared.forms.Symbol.{Symbol}
 use Rattle.symbols.proofs.Places.{Stands, quote_of, symbol_stands}
-use Rattle.gs.specs.Readings.{Expand, expands, whole_text}
-use Rattle.gs.specs.inner.Steps.{Came, Read, piece_of, length_in}
-use Rattle.gs.specs.declared.steps.Progress.{Progress}
-use Rattle.gs.proofs.Pieces.{laid_at_lem, value_small}
+use Rattle.gs.specs.Readings.{Expand, expands}
+use Rattle.gs.specs.inner.Steps.{Came, piece_of}
+use Rattle.std.specs.Prelude.{Result}
+use Rattle.std.proofs.lemmas.Result.{err_from_is_err_and}
+use Rattle.paper.specs.declared.refusals.Refused.{Refused}
+use Rattle.gs.specs.declared.steps.Carried.{Carried}
+use Rattle.gs.proofs.Pieces.{laid_at_lem}
 use Rattle.gs.proofs.PlainRuns.{at_run}
-use Rattle.gs.proofs.Follows.{number_gives, over_gives, too_big_gives, unknown_gives, text_gives, integer_gives, too_deep_gives, spent_gives, value_gives}
+use Rattle.gs.proofs.Follows.{text_gives, integer_gives, too_deep_gives, spent_gives, value_gives, macro_gives, part_short}
+use Rattle.std.proofs.Common.{rules}
+use Rattle.gs.proofs.Mapped.{ok_before, err_before}
 use Rattle.gs.proofs.Walk.{Walk, start, at_end, at_faulty, at_byte, at_reference, at_refused, came_through, came_to_refusal}
 use Rattle.gs.proofs.expansion.+expand_follow.Goals as goal
 
@@ -50,7 +50,7 @@ module _ {names : List ℕ → Meaning} {expand : Expand} {text : List ℕ} {fla
 pub expand-loop-end-init : goal.expand-loop-end-init
 expand-loop-end-init t c =
     let a = c.args in
-    let names = names_of a.farm.now a.house.now in
+    let names = names_of a.names.now.tables.farm.now a.names.now.tables.house.now in
     start names (expands names a.levels) a.text.now a.flags.0 a.carried.left a.carried.to a.out.now c.open-first.result.mode
     c.open-first.result.at c.open-first.ensures.0 c.open-first.ensures.1
 
@@ -62,13 +62,13 @@ expand-slice_bounds-copy-end t c =
 pub expand-returns-in-End : goal.expand-returns-in-End
 expand-returns-in-End t c =
     let w = passed c.loop-end.invariant c.is_ending_space-spaces_end.ensures c.plain_end-run_end.ensures c.copy.ensures in
-    rw c.ended.ensures (at_end _ _ _ _ _ _ _ _ _ _ _ _ c.in-End.end w (sym c.symbol_at-symbol.ensures ∙ c.in-End.is))
+    at_end _ _ _ _ _ _ _ _ _ _ _ _ c.in-End.end w (sym c.symbol_at-symbol.ensures ∙ c.in-End.is)
 
 pub expand-returns-in-Faulty : goal.expand-returns-in-Faulty
 expand-returns-in-Faulty t c =
     let w = passed c.loop-end.invariant c.is_ending_space-spaces_end.ensures c.plain_end-run_end.ensures c.copy.ensures in
-    rw (c.refused_text.ensures, c.number.ensures)
-    (at_faulty _ _ _ _ _ _ _ _ _ _ _ _ c.in-Faulty.fault c.in-Faulty.place w (sym c.symbol_at-symbol.ensures ∙ c.in-Faulty.is))
+    rw c.from.ensures
+    (at_faulty _ _ _ _ _ _ _ _ _ _ _ _ c.in-Faulty.fault c.in-Faulty.at w (sym c.symbol_at-symbol.ensures ∙ c.in-Faulty.is))
 
 pub expand-loop-end-smaller-in-Byte : goal.expand-loop-end-smaller-in-Byte
 expand-loop-end-smaller-in-Byte t c =
@@ -81,48 +81,35 @@ expand-loop-end-preserved-in-Byte t c =
     let byte = stands c.loop-end.invariant c.is_ending_space-spaces_end.ensures c.plain_end-run_end.ensures c.symbol_at-symbol.ensures _ c.in-Byte.is in
     at_byte _ _ _ _ _ _ _ _ _ _ _ _ c.in-Byte.byte c.in-Byte.next _ w (sym c.symbol_at-symbol.ensures ∙ c.in-Byte.is) byte.forward byte.within (laid_at_lem _ _ _ _ c.put.ensures)
 
-pub expand-slice_bounds-resolve-count : goal.expand-slice_bounds-resolve-count
-expand-slice_bounds-resolve-count t c =
+pub expand-slice_bounds-referred-count : goal.expand-slice_bounds-referred-count
+expand-slice_bounds-referred-count t c =
     let s = stands c.loop-end.invariant c.is_ending_space-spaces_end.ensures c.plain_end-run_end.ensures c.symbol_at-symbol.ensures _ c.in-Reference.is in
     omega (arith, s.long)
 
-pub expand-slice_bounds-resolve-start : goal.expand-slice_bounds-resolve-start
-expand-slice_bounds-resolve-start t c =
+pub expand-slice_bounds-referred-start : goal.expand-slice_bounds-referred-start
+expand-slice_bounds-referred-start t c =
     let s = stands c.loop-end.invariant c.is_ending_space-spaces_end.ensures c.plain_end-run_end.ensures c.symbol_at-symbol.ensures _ c.in-Reference.is in
     omega (arith, s.long, s.behind, s.within)
 
-pub expand-slice_bounds-resolve-end : goal.expand-slice_bounds-resolve-end
-expand-slice_bounds-resolve-end t c =
+pub expand-slice_bounds-referred-end : goal.expand-slice_bounds-referred-end
+expand-slice_bounds-referred-end t c =
     let s = stands c.loop-end.invariant c.is_ending_space-spaces_end.ensures c.plain_end-run_end.ensures c.symbol_at-symbol.ensures _ c.in-Reference.is in
     omega (arith, s.long, s.behind, s.within)
 
--- what a reference's content stands for, where keys and an index lead to what names mean
-module _ (farm house keys index name : List ℕ) (r : Referred) (leads : Leads farm house keys index) (e : r ≡ referred_by farm house keys index name) where
-  -- its value has up to 255 bytes
-  led_small : ((k : ℕ) → get_or farm k 0 ≤ 255) → ((k : ℕ) → get_or house k 0 ≤ 255) → length_in r ≤ 255
-  led_small f h = subst (λ r. length_in r ≤ 255) (sym (e ∙ as_led farm house keys index name leads)) (value_small farm house (all_bytes farm house f h) name)
-
-  -- and how far it came
-  led : (expand : Expand) (place left to : ℕ) (out after : List ℕ) (p : Progress) → Came (piece_of farm house expand r name place) left to out after p
-      → Came (piece_of farm house expand (referred_in farm house name) name place) left to out after p
-  led expand place left to out after p = subst (λ r. Came (piece_of farm house expand r name place) left to out after p) (e ∙ as_led farm house keys index name leads)
-
-pub expand-follow-came-requires : goal.expand-follow-came-requires
-expand-follow-came-requires t c =
-    let a = c.args in
-    let w = passed c.loop-end.invariant c.is_ending_space-spaces_end.ensures c.plain_end-run_end.ensures c.copy.ensures in (
-      omega arith,
-      (
-        omega (arith, c.requires.1, w.place, w.small, w.inside),
-        led_small a.farm.now a.house.now a.keys.now a.index.now _ _ c.requires.2 c.resolve-referred.ensures (λ k. omega (arith, c.type_inv.farm k)) (λ k. omega (arith, c.type_inv.house k)),
-        c.requires.2,
-      ),
-    )
+pub expand-follow-requires : goal.expand-follow-requires
+expand-follow-requires t c =
+    let w = passed c.loop-end.invariant c.is_ending_space-spaces_end.ensures c.plain_end-run_end.ensures c.copy.ensures in
+    (omega arith, (omega (arith, c.requires.1, w.place, w.small, w.inside), c.referred-referred.ensures.short))
 
 pub expand-loop-end-smaller : goal.expand-loop-end-smaller
 expand-loop-end-smaller t c =
     let s = stands c.loop-end.invariant c.is_ending_space-spaces_end.ensures c.plain_end-run_end.ensures c.symbol_at-symbol.ensures _ c.in-Reference.is in
     omega (arith, s.begins, s.long, s.behind, s.within, (stretch c.loop-end.invariant c.is_ending_space-spaces_end.ensures c.plain_end-run_end.ensures).forward)
+
+-- how far a reference came, by what its content stands for
+named : (farm house name : List ℕ) (r : Referred) → r ≡ referred_in farm house name → (expand : Expand) (place left to : ℕ) (out after : List ℕ) (p : Result Carried Refused)
+    → Came (piece_of farm house expand r name place) left to out after p → Came (piece_of farm house expand (referred_in farm house name) name place) left to out after p
+named farm house name r e expand place left to out after p = subst (λ r. Came (piece_of farm house expand r name place) left to out after p) e
 
 pub expand-loop-end-preserved : goal.expand-loop-end-preserved
 expand-loop-end-preserved t c =
@@ -133,72 +120,64 @@ expand-loop-end-preserved t c =
     let name = take (r.end - r.start) (drop r.start a.text.now) in
     at_reference _ _ _ _ _ _ _ _ _ _ _ _ _ r.start r.end r.next w (sym c.symbol_at-symbol.ensures ∙ r.is) _ _ _
     (omega (arith, s.begins, s.long, s.behind)) s.within
-    (came_through _ _ _ _ _ _ _ (led a.farm.now a.house.now a.keys.now a.index.now name _ c.requires.2 c.resolve-referred.ensures _ _ _ _ _ _ _ (c.follow-came.ensures name)) c.in-Going.is)
+    (came_through _ _ _ _ _ _ _ (named a.names.now.tables.farm.now a.names.now.tables.house.now name _ c.referred-referred.ensures.meaning _ _ _ _ _ _ _ (c.follow.ensures name)) c.in_ok-behind-in-Reference.was)
 
-pub expand-returns-in-Refused : goal.expand-returns-in-Refused
-expand-returns-in-Refused t c =
+pub expand-returns-in_err-behind-in-Reference : goal.expand-returns-in_err-behind-in-Reference
+expand-returns-in_err-behind-in-Reference t c =
     let a = c.args in
     let w = passed c.loop-end.invariant c.is_ending_space-spaces_end.ensures c.plain_end-run_end.ensures c.copy.ensures in
     let r = c.in-Reference in
     let name = take (r.end - r.start) (drop r.start a.text.now) in
-    let both = came_to_refusal _ _ _ _ _ _ _ _ (led a.farm.now a.house.now a.keys.now a.index.now name _ c.requires.2 c.resolve-referred.ensures _ _ _ _ _ _ _ (c.follow-came.ensures name)) c.in-Refused.is in
-    rw c.refused_text-in-Refused.ensures
-    (at_refused _ _ _ _ _ _ _ _ _ _ _ _ _ r.start r.end r.next w (sym c.symbol_at-symbol.ensures ∙ r.is) _ _ _ both.0 both.1)
-
--- a value is no longer than its variable says
-part_short : (farm house value : List ℕ) (v : Variable) → value ≡ part_of farm house v → v.length ≤ 255 → length value ≤ 255
-part_short farm house value v e small = omega (arith, ap length e, length-take v.length (drop v.start (held_by v.holder farm house)))
-
-pub follow-returns-then-levels-eq0 : goal.follow-returns-then-levels-eq0
-follow-returns-then-levels-eq0 t c name =
-    let a = c.args in
-    too_deep_gives a.farm.now a.house.now a.referred name a.carried.left a.place a.carried.to a.out.now (names_of a.farm.now a.house.now) a.levels _ c.in-Macro.is _
-    c.if-levels-eq0.true c.refused_reference-then-levels-eq0.ensures
-
-pub follow-returns-then-carried-eq0 : goal.follow-returns-then-carried-eq0
-follow-returns-then-carried-eq0 t c name =
-    let a = c.args in
-    spent_gives a.farm.now a.house.now a.referred name a.carried.left a.place a.carried.to a.out.now (names_of a.farm.now a.house.now) a.levels _ c.in-Macro.is _
-    c.if-levels-eq0.false c.if-carried-eq0.true c.refused_reference-then-carried-eq0.ensures
-
-pub follow-returns-in-Number : goal.follow-returns-in-Number
-follow-returns-in-Number t c name =
-    let a = c.args in
-    number_gives a.farm.now a.house.now a.referred name a.carried.left a.place a.carried.to a.out.now _ _ _ c.in-Number.is (laid_at_lem _ _ _ _ c.put.ensures)
-
-pub follow-returns-in-CodeOver255 : goal.follow-returns-in-CodeOver255
-follow-returns-in-CodeOver255 t c name =
-    let a = c.args in
-    over_gives a.farm.now a.house.now a.referred name a.carried.left a.place a.carried.to a.out.now _ _ c.in-CodeOver255.is c.refused_reference.ensures
-
-pub follow-returns-in-TooBig : goal.follow-returns-in-TooBig
-follow-returns-in-TooBig t c name =
-    let a = c.args in
-    too_big_gives a.farm.now a.house.now a.referred name a.carried.left a.place a.carried.to a.out.now _ _ c.in-TooBig.is c.refused_reference-in-TooBig.ensures
-
-pub follow-returns-in-Unknown : goal.follow-returns-in-Unknown
-follow-returns-in-Unknown t c name =
-    let a = c.args in
-    unknown_gives a.farm.now a.house.now a.referred name a.carried.left a.place a.carried.to a.out.now _ _ c.in-Unknown.is c.refused_reference-in-Unknown.ensures
+    let both = came_to_refusal _ _ _ _ _ _ _ (named a.names.now.tables.farm.now a.names.now.tables.house.now name _ c.referred-referred.ensures.meaning _ _ _ _ _ _ _ (c.follow.ensures name)) c.in_err-behind-in-Reference.was in
+    let p = err_from_is_err_and c.from_residual.result c.from_residual.ensures.1 in
+    rw (p.1, p.2)
+    (at_refused _ _ _ _ _ _ _ _ _ _ _ _ _ r.start r.end r.next w (sym c.symbol_at-symbol.ensures ∙ r.is) _ _ both.0 both.1)
 
 pub follow-returns-in-Text : goal.follow-returns-in-Text
 follow-returns-in-Text t c name =
     let a = c.args in
-    text_gives a.farm.now a.house.now a.referred name a.carried.left a.place a.carried.to a.out.now _ _ _ _ _ c.in-Text.is c.value_of.ensures (c.give.ensures name)
+    text_gives a.names.now.tables.farm.now a.names.now.tables.house.now a.referred name a.carried.left a.at a.carried.to a.out.now _ _ _ _ _ c.in-Text.is c.value_of.ensures (c.give.ensures name)
 
 pub follow-returns-in-Integer : goal.follow-returns-in-Integer
 follow-returns-in-Integer t c name =
     let a = c.args in
-    integer_gives a.farm.now a.house.now a.referred name a.carried.left a.place a.carried.to a.out.now _ _ _ _ _ c.in-Integer.is c.value_of-in-Integer.ensures
+    integer_gives a.names.now.tables.farm.now a.names.now.tables.house.now a.referred name a.carried.left a.at a.carried.to a.out.now _ _ _ _ _ c.in-Integer.is c.value_of-in-Integer.ensures
     (c.give_integer.ensures name)
 
-pub follow-returns-else-carried-eq0 : goal.follow-returns-else-carried-eq0
-follow-returns-else-carried-eq0 t c name =
+pub follow-spell-requires : goal.follow-spell-requires
+follow-spell-requires t c =
     let a = c.args in
-    let names = names_of a.farm.now a.house.now in
-    let value = c.value_of-value.result.now in
-    let short = part_short a.farm.now a.house.now _ c.in-Macro.v c.value_of-value.ensures (subst (λ r. length_in r ≤ 255) c.in-Macro.is c.requires.1) in
-    let read = subst (λ f. Read (whole_text names (expands names (a.levels - 1)) value f) (length value) (a.carried.left - 1) a.carried.to a.out.now c.expand.new.out c.expand.result)
-    c.none.ensures c.expand.ensures in
-    value_gives a.farm.now a.house.now a.referred name a.carried.left a.place a.carried.to a.out.now names a.levels _ c.in-Macro.is _ _ _ _
-    c.if-levels-eq0.false c.if-carried-eq0.false c.value_of-value.ensures short read c.progress_of.ensures
+    (omega arith, (c.requires.0, part_short a.names.now.tables.farm.now a.names.now.tables.house.now _ a.referred _ c.in-Macro.is c.value_of-in-Macro.ensures c.requires.1))
+
+pub follow-returns-in-Macro : goal.follow-returns-in-Macro
+follow-returns-in-Macro t c name =
+    let a = c.args in
+    macro_gives a.names.now.tables.farm.now a.names.now.tables.house.now a.referred name a.carried.left a.at a.carried.to a.out.now _ _ _ _ _ c.in-Macro.is c.value_of-in-Macro.ensures
+    (c.spell.ensures name)
+
+pub spell-returns-then-levels-eq0 : goal.spell-returns-then-levels-eq0
+spell-returns-then-levels-eq0 t c name =
+    let a = c.args in
+    too_deep_gives (names_of a.names.now.tables.farm.now a.names.now.tables.house.now) a.levels a.value.now name a.carried.left a.at a.carried.to a.out.now c.if-levels-eq0.true
+
+pub spell-returns-then-carried-eq0 : goal.spell-returns-then-carried-eq0
+spell-returns-then-carried-eq0 t c name =
+    let a = c.args in
+    spent_gives (names_of a.names.now.tables.farm.now a.names.now.tables.house.now) a.levels a.value.now name a.carried.left a.at a.carried.to a.out.now c.if-levels-eq0.false c.if-carried-eq0.true
+
+pub spell-returns-in_err-inner : goal.spell-returns-in_err-inner
+spell-returns-in_err-inner t c name =
+    let a = c.args in
+    let p = err_from_is_err_and c.from_residual.result c.from_residual.ensures.1 in
+    let b = err_before _ c.expand.result _ _ c.map_err.ensures.cases c.in_err-inner.was in
+    let w : c.in_err-inner.field-0.0 ≡ record { why = b.0.why; at = a.at } = search (rules, b.2) in
+    rw (p.1, p.2, w)
+    (value_gives (names_of a.names.now.tables.farm.now a.names.now.tables.house.now) a.levels a.value.now name a.carried.left a.at a.carried.to a.out.now _ _ _ _ c.requires.1
+    c.if-levels-eq0.false c.if-carried-eq0.false c.none.ensures c.expand.ensures b.1)
+
+pub spell-returns : goal.spell-returns
+spell-returns t c name =
+    let a = c.args in
+    let b = ok_before _ c.expand.result _ _ c.map_err.ensures.cases c.in_ok-inner.was in
+    value_gives (names_of a.names.now.tables.farm.now a.names.now.tables.house.now) a.levels a.value.now name a.carried.left a.at a.carried.to a.out.now _ _ _ _ c.requires.1
+    c.if-levels-eq0.false c.if-carried-eq0.false c.none.ensures c.expand.ensures b

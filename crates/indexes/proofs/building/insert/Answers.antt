@@ -2,6 +2,7 @@
 use mathlib.Core.List.{List, [], ◌∷◌, ◌++◌, append_assoc}
 use mathlib.Core.Path.{◌≡◌, ap, ap₂, sym, ◌∙◌}
 use Prim.Native.Nat.{ℕ, suc, ◌+◌, ◌*◌, ◌-◌, ◌/◌, ◌%◌, ◌≤◌}
+use native.Mathlib.Nat.{mod-eq_of_lt}
 use native.Mathlib.Omega.{arith}
 use lib.ListN.{length, get_or, take, set, length-append}
 use lib.Seq.{take-add, drop-cons, set_at, append_snoc, length-take-le, take_all, lt-length-set}
@@ -45,6 +46,10 @@ returns c =
     let at : ℕ = 2 * c.slot_in-slot.result in
     let low : ℕ = a.place % 256 in
     let high : ℕ = a.place / 256 in
-    ap (λ l. set (set l at low) (at + 1) high) gap.ensures
+    let first : get_or c.to_le_bytes-bytes.result 0 0 ≡ low = ap (λ l. get_or l 0 0) c.to_le_bytes-bytes.ensures in
+    let second : get_or c.to_le_bytes-bytes.result 1 0 ≡ high =
+    ap (λ l. get_or l 1 0) c.to_le_bytes-bytes.ensures ∙ mod-eq_of_lt {n = a.place / 256} {m = 256} (omega (arith, c.requires)) in
+    ap₂ (λ x y. set (set gap.new.out at x) (at + 1) y) first second
+    ∙ ap (λ l. set (set l at low) (at + 1) high) gap.ensures
     ∙ both_set a.out.now _ at low high (omega (arith, c.slot_in-slot.ensures.1))
     ∙ ap (λ slot. with_entry slot a.count a.place a.out.now) (c.slot_in-slot.ensures.0 ∙ ap₂ (λ index name. slot_in a.table.now index a.count name) (take_all (length a.out.now - 0) a.out.now (omega arith)) c.name_at.ensures)

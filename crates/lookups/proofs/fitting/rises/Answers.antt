@@ -1,5 +1,4 @@
 -- `rises` meets its contract. The loop's invariant: the entries before rise, and the last place is that of the one before.
--- The measure is what is left of the entries.
 use mathlib.Core.Bool.{Bool, true, false, false≢true}
 use mathlib.Core.List.{List}
 use mathlib.Core.Path.{◌≡◌, ap, ap₂, sym, ◌∙◌}
@@ -7,6 +6,7 @@ use Prim.Native.Nat.{ℕ, ◌+◌, ◌-◌, ◌<◌, ◌≤◌}
 use native.Mathlib.Decide.{dec_lt}
 use native.Mathlib.Omega.{arith}
 use borrow.Author.Count.{below_more}
+use Rattle.paper.specs.declared.bits.Bits.{Bits}
 use Rattle.records.specs.Records.{name_at, comes_before}
 use Rattle.indexes.specs.inner.Halving.{place_in, name_in}
 use Rattle.lookups.specs.inner.Fitting.{marked, Rises}
@@ -16,7 +16,7 @@ use Rattle.lookups.proofs.fitting.rises.Goals as goal
 before_next : (index : List ℕ) (entry : ℕ) {place : ℕ} → place ≡ place_in index entry → (k : ℕ) → k + 1 ≡ entry + 1 → place ≡ place_in index k
 before_next index entry p k q = p ∙ ap (place_in index) (omega arith)
 
-module _ (table marks index : List ℕ) where
+module _ (table : List ℕ) (marks : Bits 2048) (index : List ℕ) where
   none : Rises table marks index 0
   none = record { places = λ k h. absurd (omega arith); rising = λ k h. absurd (omega arith) }
 
@@ -61,14 +61,14 @@ returns-then-count-eq0 c =
     let zero_of = c.if-count-eq0.true in
     (λ _. rw zero_of (none _ _ _), λ e. absurd (false≢true (sym e)))
 
-pub returns-then-not-is_marked : goal.returns-then-not-is_marked
-returns-then-not-is_marked c =
-    let told = sym c.is_marked.ensures ∙ c.if-not-is_marked.true in
+pub returns-then-not-has : goal.returns-then-not-has
+returns-then-not-has c =
+    let told = sym c.has.ensures ∙ c.if-not-has.true in
     (λ e. absurd (false≢true e), λ _. unmarked_here _ _ _ {entry = 0} (omega arith) c.place_at-last.ensures.0 told)
 
 pub loop-entry-init : goal.loop-entry-init
 loop-entry-init c =
-    let told = sym c.is_marked.ensures ∙ c.if-not-is_marked.false in
+    let told = sym c.has.ensures ∙ c.if-not-has.false in
     let there = c.place_at-last.ensures.0 in (
       omega arith,
       omega arith,
@@ -76,9 +76,9 @@ loop-entry-init c =
       before_next _ 0 there,
     )
 
-pub returns-then-not-is_marked-2 : goal.returns-then-not-is_marked-2
-returns-then-not-is_marked-2 c =
-    let told = sym c.is_marked-in-loop-entry.ensures ∙ c.if-not-is_marked-2.true in
+pub returns-then-not-has-2 : goal.returns-then-not-has-2
+returns-then-not-has-2 c =
+    let told = sym c.has-in-loop-entry.ensures ∙ c.if-not-has-2.true in
     (λ e. absurd (false≢true e), λ _. unmarked_here _ _ _ c.loop-entry-test.true c.place_at-place.ensures.0 told)
 
 pub returns-then-not-comes_before : goal.returns-then-not-comes_before
@@ -92,7 +92,7 @@ loop-entry-preserved c =
     let i = c.loop-entry.invariant in
     let there = c.place_at-place.ensures.0 in
     let told = compared c.args.table.now c.loop-entry.last c.place_at-place.result c.name_at.ensures c.name_at-in-loop-entry.ensures c.comes_before.ensures c.if-not-comes_before.false in
-    let marked-here = sym c.is_marked-in-loop-entry.ensures ∙ c.if-not-is_marked-2.false in (
+    let marked-here = sym c.has-in-loop-entry.ensures ∙ c.if-not-has-2.false in (
       omega arith,
       omega arith,
       one_more _ _ _ i.2 there marked-here (stand _ c.args.marks.now _ i.3 there told),

@@ -7,6 +7,6 @@ use Rattle.nosgoludd.proofs.buildings.nos_build_index.Goals as goal
 pub returns : goal.returns
 returns c =
     record {
-      answer = c.face.ensures ∙ ap (λ r. answer_face (built_answer r)) c.build_index.ensures.answer;
+      answer = c.from.ensures ∙ ap (λ r. answer_face (built_answer r)) c.build_index.ensures.answer;
       buffer = c.build_index.ensures.buffer;
     }

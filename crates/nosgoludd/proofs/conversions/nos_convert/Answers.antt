@@ -8,8 +8,8 @@ use Rattle.nosgoludd.proofs.conversions.nos_convert.Goals as goal
 
 pub returns : goal.returns
 returns c =
-    let made = c.before.before.before in
-    let a = made.args in record {
-      answer = c.face.ensures ∙ ap answer_face (ap converted_answer made.convert.ensures.answer ∙ converted_kept a.call a.value (length a.buf.now));
-      buffer = made.convert.ensures.buffer;
+    let a = c.args in
+    record {
+      answer = c.from.ensures ∙ ap answer_face (ap converted_answer c.convert.ensures.answer ∙ converted_kept a.call a.value (length a.buf.now));
+      buffer = c.convert.ensures.buffer;
     }

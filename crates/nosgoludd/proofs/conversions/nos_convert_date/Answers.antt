@@ -8,9 +8,9 @@ use Rattle.nosgoludd.proofs.conversions.nos_convert_date.Goals as goal
 
 pub returns : goal.returns
 returns c =
-    let made = c.before.before.before in
-    let a = made.args in record {
-      answer = c.face.ensures
-          ∙ ap answer_face (ap converted_answer made.convert_date.ensures.answer ∙ converted_kept a.time.now a.format.now (length a.buf.now));
-      buffer = made.convert_date.ensures.buffer;
+    let a = c.args in
+    record {
+      answer = c.from.ensures
+          ∙ ap answer_face (ap converted_answer c.convert_date.ensures.answer ∙ converted_kept a.time.now a.format.now (length a.buf.now));
+      buffer = c.convert_date.ensures.buffer;
     }

@@ -1,9 +1,8 @@
--- `run_from` meets its contract. The loop's invariant, `Reached`: only digits were passed, and the value is what they are worth. The
--- measure is what is left of the length.
+-- `run_from` meets its contract. The loop's invariant, `Reached`: only digits were passed, and the value is what they are worth.
 use mathlib.Core.List.{List}
 use mathlib.Core.Path.{◌≡◌}
-use Prim.Native.Nat.{ℕ, ◌-◌, ◌<◌}
-use lib.ListN.{length, drop}
+use Prim.Native.Nat.{ℕ, ◌<◌}
+use lib.ListN.{drop}
 use Rattle.reader.specs.Reading.{run, worth}
 use Rattle.reader.proofs.Laws.{Passed}
 use Rattle.reader.proofs.digits.run_from.Given as goal
@@ -15,6 +14,3 @@ pub record Reached (text : List ℕ) (first base value at : ℕ) : Type 0 where
 
 abbrev pub invariant-loop-at : goal.invariant-loop-at
 invariant-loop-at l = Reached l.text l.first l.base l.value l.at
-
-abbrev pub decreases-loop-at : goal.decreases-loop-at
-decreases-loop-at l = length l.text - l.at

@@ -1,43 +1,38 @@
--- `comes_before` meets its contract. The loop's invariant: which name comes first hangs on their bytes from there on. The measure is what
--- is left of the first.
-use mathlib.Core.Path.{refl, ap₂, sym, ◌∙◌}
-use native.Mathlib.Omega.{arith}
-use lib.Dec.{ltb}
-use Rattle.records.proofs.Order.{beginning_first, beginning_ends, before_more, before_here}
+-- `comes_before` meets its contract: each turn has the next two bytes, and after the last the shorter name ends.
+use mathlib.Core.Bool.{true, false}
+use mathlib.Core.List.{List}
+use mathlib.Core.Path.{◌≡◌, ap₂, sym, ◌∙◌}
+use Prim.Native.Nat.{ℕ, ◌+◌, ◌<◌}
+use lib.Dec.{eqb, ltb}
+use lib.ListN.{length, get_or, drop}
+use Rattle.std.proofs.lemmas.List.{length_push}
+use Rattle.std.proofs.lemmas.Slice.Zip.{zip_turn, zip_end}
+use Rattle.records.specs.Records.{small, comes_before}
+use Rattle.records.proofs.Order.{shorter_first, before_more, before_here}
 use Rattle.records.proofs.names.comes_before.Goals as goal
 
-pub loop-at-init : goal.loop-at-init
-loop-at-init c = (omega arith, omega arith, refl)
+module _ (a b : List ℕ) (at : ℕ) (h : at < length a) (k : at < length b) {x y : ℕ} (p : x ≡ get_or a at 0) (q : y ≡ get_or b at 0) where
+  stopped : eqb (small x) (small y) ≡ false → ltb (small x) (small y) ≡ comes_before (drop at a) (drop at b)
+  stopped e = ap₂ (λ u v. ltb (small u) (small v)) p q ∙ sym (before_here a b at h k (sym (ap₂ (λ u v. eqb (small u) (small v)) p q) ∙ e))
 
-pub returns-then-at-b : goal.returns-then-at-b
-returns-then-at-b c = sym (c.loop-at.invariant.2 ∙ beginning_first _ _ _ c.loop-at-test.true (omega arith))
+  more : (next : ℕ) → next ≡ at + 1 → eqb (small x) (small y) ≡ true → comes_before (drop at a) (drop at b) ≡ comes_before (drop next a) (drop next b)
+  more next n e = rw n (before_more a b at h k (sym (ap₂ (λ u v. eqb (small u) (small v)) p q) ∙ e))
 
-pub bounds-a-at : goal.bounds-a-at
-bounds-a-at c = omega arith
+pub returns-then-not-is_alike : goal.returns-then-not-is_alike
+returns-then-not-is_alike c =
+    let t = zip_turn c.args.a.now c.args.b.now c.loop-x.yielded c.into_iter-x-iterator.result c.loop-x.x-iterator c.next.new.self c.next.result (cc) (cc) c.loop-x.yielded_by (c.in-Some.x, c.in-Some.y) c.in-Some.is c.next.ensures.steps in
+    ap₂ ltb c.small.ensures c.small-then-not-is_alike.ensures
+    ∙ stopped _ _ (length c.loop-x.yielded) t.0 t.1 (t.2 0) (t.3 0) (sym c.is_alike.ensures ∙ c.if-not-is_alike.true) ∙ sym c.loop-x.invariant.2
 
-pub bounds-b-at : goal.bounds-b-at
-bounds-b-at c = omega arith
-
-pub overflow_add-at : goal.overflow_add-at
-overflow_add-at c = omega arith
-
-pub loop-at-smaller : goal.loop-at-smaller
-loop-at-smaller c = omega arith
-
-pub loop-at-preserved : goal.loop-at-preserved
-loop-at-preserved c =
-    (omega arith, omega arith, c.loop-at.invariant.2 ∙ before_more _ _ c.loop-at.at c.loop-at-test.true (omega arith) (sym c.is_alike.ensures ∙ c.if-is_alike.true))
-
-pub bounds-a-at-else-is_alike : goal.bounds-a-at-else-is_alike
-bounds-a-at-else-is_alike c = omega arith
-
-pub bounds-b-at-else-is_alike : goal.bounds-b-at-else-is_alike
-bounds-b-at-else-is_alike c = omega arith
-
-pub returns-else-is_alike : goal.returns-else-is_alike
-returns-else-is_alike c =
-    ap₂ ltb c.small.ensures c.small-else-is_alike.ensures
-    ∙ sym (c.loop-at.invariant.2 ∙ before_here _ _ c.loop-at.at c.loop-at-test.true (omega arith) (sym c.is_alike.ensures ∙ c.if-is_alike.false))
+pub loop-x-preserved : goal.loop-x-preserved
+loop-x-preserved c =
+    let t = zip_turn c.args.a.now c.args.b.now c.loop-x.yielded c.into_iter-x-iterator.result c.loop-x.x-iterator c.next.new.self c.next.result (cc) (cc) c.loop-x.yielded_by (c.in-Some.x, c.in-Some.y) c.in-Some.is c.next.ensures.steps in (
+      (tt, tt),
+      tt,
+      c.loop-x.invariant.2 ∙ more _ _ (length c.loop-x.yielded) t.0 t.1 (t.2 0) (t.3 0) _ (length_push c.loop-x.yielded _) (sym c.is_alike.ensures ∙ c.if-not-is_alike.false),
+    )
 
 pub returns : goal.returns
-returns c = sym (c.loop-at.invariant.2 ∙ beginning_ends _ _ _ c.loop-at-test.false c.loop-at.invariant.1 (omega arith))
+returns c =
+    let e = zip_end c.args.a.now c.args.b.now c.loop-x.yielded c.into_iter-x-iterator.result c.loop-x.x-iterator c.next.new.self c.next.result (cc) (cc) c.loop-x.yielded_by c.in-None.is c.next.ensures.steps in
+    sym (c.loop-x.invariant.2 ∙ shorter_first _ _ (length c.loop-x.yielded) e)

@@ -1,11 +1,7 @@
--- `blocks_without` meets its contract. The loop's invariant: no line up to here has the key. The measure is what is left of the lines.
-use Prim.Native.Nat.{◌-◌}
-use lib.ListN.{length}
+-- `blocks_without` meets its contract. The loop's invariant: no line up to the next block has the key.
+use Prim.Native.Nat.{◌*◌}
 use Rattle.variables.specs.inner.Keys.{Without}
 use Rattle.variables.proofs.blocks.blocks_without.Given as goal
 
-abbrev pub invariant-loop-at : goal.invariant-loop-at
-invariant-loop-at l = Without l.key l.keys l.at
-
-abbrev pub decreases-loop-at : goal.decreases-loop-at
-decreases-loop-at l = length l.keys - l.at
+abbrev pub invariant-loop-number : goal.invariant-loop-number
+invariant-loop-number l = Without l.key l.keys (16 * l.number)

@@ -1,12 +1,8 @@
--- `hits` meets its contract. The loop's invariant: while what is joined is 0, the lines passed do not have the key. The measure is what
--- is left of the block.
+-- `hits` meets its contract. The loop's invariant: while what is joined is 0, the lines passed do not have the key.
 use mathlib.Core.Path.{◌≡◌}
-use Prim.Native.Nat.{◌+◌, ◌-◌, ◌≤◌}
-use Rattle.variables.specs.inner.Keys.{Without}
+use Prim.Native.Nat.{ℕ, ◌%◌, ◌<◌}
+use lib.ListN.{get_or}
 use Rattle.variables.proofs.blocks.hits.Given as goal
 
-abbrev pub invariant-loop-i : goal.invariant-loop-i
-invariant-loop-i l = (l.i ≤ 16) × (l.any ≡ 0 → Without l.key l.keys l.at → Without l.key l.keys (l.at + l.i))
-
-abbrev pub decreases-loop-i : goal.decreases-loop-i
-decreases-loop-i l = 16 - l.i
+abbrev pub invariant-loop-line : goal.invariant-loop-line
+invariant-loop-line l = l.any ≡ 0 → (k : ℕ) → k < l.line-index → get_or l.block k 0 % 32768 ≡ l.key → ⊥

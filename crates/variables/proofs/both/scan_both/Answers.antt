@@ -1,48 +1,32 @@
 -- `scan_both` meets its contract: the house's lines go behind the farm's.
-use mathlib.Core.List.{List, ◌++◌, append-nil}
+use mathlib.Core.List.{List, ◌++◌}
 use mathlib.Core.Path.{◌≡◌, ap, sym, ◌∙◌}
 use Prim.Native.Nat.{ℕ, ◌+◌, ◌-◌, ◌≤◌}
 use native.Mathlib.Omega.{arith}
 use borrow.Rule.Slice.PartMut.{put_mid}
 use Rattle.paper.specs.Refusals.{longest}
-use Rattle.paper.specs.declared.RecordPlace.{RecordPlace}
 use Rattle.paper.specs.declared.Holder.TheVariants.{Farm, House}
-use Rattle.variables.specs.Judgements.{scanned_then, behind_own}
 use Rattle.variables.specs.Tables.{most, scan}
 use Rattle.variables.specs.inner.Keys.{laid_over, passed_lines, behind_farm, both_lines}
-use Rattle.variables.specs.declared.Checked.{Checked}
-use Rattle.variables.specs.declared.Checked.TheVariants.{Good, BadTable}
+use Rattle.std.specs.Prelude.{Result, Ok}
+use Rattle.paper.specs.declared.refusals.BadTable.{BadTable}
 use lib.ListN.{length, take, drop, length-append, length-drop}
 use lib.Seq.{length-take-le}
 use Rattle.variables.proofs.Bounds.{count_bounded}
+use Rattle.variables.proofs.Judging.{told_good}
 use Rattle.variables.proofs.KeysFind.{passed_long}
 use Rattle.variables.proofs.Passed.{laid_behind}
 use Rattle.variables.proofs.both.scan_both.Goals as goal
 
 -- where the farm's scan has ended, with what it told
-module _ (farm house : List ℕ) {r : Checked} (s : r ≡ scan farm) where
-  -- it decides
-  decided :
-      {k : Checked} → r ≡ k →
-      scanned_then Farm k (λ own. scanned_then House (scan house) (behind_own own))
-      ≡ scanned_then Farm (scan farm) (λ own. scanned_then House (scan house) (behind_own own))
-  decided e = ap (λ r. scanned_then Farm r (λ own. scanned_then House (scan house) (behind_own own))) (sym e ∙ s)
-
+module _ (farm house : List ℕ) {r : Result ℕ BadTable} (s : r ≡ scan farm) where
   module _ (keys : List ℕ) {keys₁ : List ℕ} (l : keys₁ ≡ laid_over (passed_lines Farm farm r) keys) where
     laid : keys₁ ≡ laid_over (passed_lines Farm farm (scan farm)) keys
     laid = l ∙ ap (λ r. laid_over (passed_lines Farm farm r) keys) s
 
-    -- a bad table's lines are followed by none
-    bad : {number : ℕ} {at : RecordPlace} → r ≡ BadTable number at → keys₁ ≡ laid_over (both_lines farm house) keys
-    bad e =
-        let lines = passed_lines Farm farm (scan farm) in
-        laid
-        ∙ ap (λ ls. laid_over ls keys)
-        (sym (append-nil lines) ∙ ap (λ r. lines ++ behind_farm r (passed_lines House house (scan house))) (sym e ∙ s))
-
     -- where it found so many records
-    module _ (short : length farm ≤ longest) (room : length keys ≡ most + most) {own : ℕ} (e : r ≡ Good own) where
-      good : scan farm ≡ Good own
+    module _ (short : length farm ≤ longest) (room : length keys ≡ most + most) {own : ℕ} (e : r ≡ Ok own) where
+      good : scan farm ≡ Ok own
       good = sym s ∙ e
 
       few : own ≤ most
@@ -74,46 +58,40 @@ module _ (farm house : List ℕ) {r : Checked} (s : r ≡ scan farm) where
 pub offset_bounds-keys-own : goal.offset_bounds-keys-own
 offset_bounds-keys-own c =
     let a = c.args in
-    omega (arith, few a.farm.now a.house.now c.scan.ensures.answer a.keys.now c.scan.ensures.keys c.requires.0 c.requires.2 c.in-Good.is)
+    let ok = told_good Farm c.scan.result c.in_ok-own.ensures in
+    omega (arith, few a.tables.now.farm.now a.tables.now.house.now c.scan.ensures.answer a.keys.now c.scan.ensures.keys c.requires.0 c.requires.2 ok)
 
 pub slice_bounds-scan_house-count : goal.slice_bounds-scan_house-count
 slice_bounds-scan_house-count c =
     let a = c.args in
+    let ok = told_good Farm c.scan.result c.in_ok-own.ensures in
     omega (
       arith,
-      few a.farm.now a.house.now c.scan.ensures.answer a.keys.now c.scan.ensures.keys c.requires.0 c.requires.2 c.in-Good.is,
-      size a.farm.now a.house.now c.scan.ensures.answer a.keys.now c.scan.ensures.keys c.requires.0 c.requires.2 c.in-Good.is,
+      few a.tables.now.farm.now a.tables.now.house.now c.scan.ensures.answer a.keys.now c.scan.ensures.keys c.requires.0 c.requires.2 ok,
+      size a.tables.now.farm.now a.tables.now.house.now c.scan.ensures.answer a.keys.now c.scan.ensures.keys c.requires.0 c.requires.2 ok,
     )
 
 pub slice_bounds-scan_house-start : goal.slice_bounds-scan_house-start
 slice_bounds-scan_house-start c =
     let a = c.args in
+    let ok = told_good Farm c.scan.result c.in_ok-own.ensures in
     omega (
       arith,
-      few a.farm.now a.house.now c.scan.ensures.answer a.keys.now c.scan.ensures.keys c.requires.0 c.requires.2 c.in-Good.is,
-      size a.farm.now a.house.now c.scan.ensures.answer a.keys.now c.scan.ensures.keys c.requires.0 c.requires.2 c.in-Good.is,
+      few a.tables.now.farm.now a.tables.now.house.now c.scan.ensures.answer a.keys.now c.scan.ensures.keys c.requires.0 c.requires.2 ok,
+      size a.tables.now.farm.now a.tables.now.house.now c.scan.ensures.answer a.keys.now c.scan.ensures.keys c.requires.0 c.requires.2 ok,
     )
 
 pub scan_house-requires : goal.scan_house-requires
 scan_house-requires c =
     let a = c.args in
-    let f = few a.farm.now a.house.now c.scan.ensures.answer a.keys.now c.scan.ensures.keys c.requires.0 c.requires.2 c.in-Good.is in
-    let z = size a.farm.now a.house.now c.scan.ensures.answer a.keys.now c.scan.ensures.keys c.requires.0 c.requires.2 c.in-Good.is in
-    let l = left a.farm.now a.house.now c.scan.ensures.answer a.keys.now c.scan.ensures.keys c.requires.0 c.requires.2 c.in-Good.is in
+    let ok = told_good Farm c.scan.result c.in_ok-own.ensures in
+    let f = few a.tables.now.farm.now a.tables.now.house.now c.scan.ensures.answer a.keys.now c.scan.ensures.keys c.requires.0 c.requires.2 ok in
+    let z = size a.tables.now.farm.now a.tables.now.house.now c.scan.ensures.answer a.keys.now c.scan.ensures.keys c.requires.0 c.requires.2 ok in
+    let l = left a.tables.now.farm.now a.tables.now.house.now c.scan.ensures.answer a.keys.now c.scan.ensures.keys c.requires.0 c.requires.2 ok in
     (f, c.requires.1, omega (arith, f, z, l))
 
-pub returns-in-BadTable : goal.returns-in-BadTable
-returns-in-BadTable c =
+pub returns-clause-keys : goal.returns-clause-keys
+returns-clause-keys c =
     let a = c.args in
-    record {
-      answer = c.bad_table.ensures ∙ decided a.farm.now a.house.now c.scan.ensures.answer c.in-BadTable.is;
-      keys = bad a.farm.now a.house.now c.scan.ensures.answer a.keys.now c.scan.ensures.keys c.in-BadTable.is;
-    }
-
-pub returns-in-Good : goal.returns-in-Good
-returns-in-Good c =
-    let a = c.args in
-    record {
-      answer = c.scan_house.ensures.answer ∙ decided a.farm.now a.house.now c.scan.ensures.answer c.in-Good.is;
-      keys = put a.farm.now a.house.now c.scan.ensures.answer a.keys.now c.scan.ensures.keys c.requires.0 c.requires.2 c.in-Good.is c.scan_house.ensures.keys;
-    }
+    let ok = told_good Farm c.scan.result c.in_ok-own.ensures in
+    put a.tables.now.farm.now a.tables.now.house.now c.scan.ensures.answer a.keys.now c.scan.ensures.keys c.requires.0 c.requires.2 ok c.scan_house.ensures.keys

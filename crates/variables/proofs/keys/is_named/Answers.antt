@@ -8,7 +8,7 @@ pub returns-then-line-key : goal.returns-then-line-key
 unfolding record_by entry_at
 returns-then-line-key c =
     rw (eq-eqb _ _ c.if-line-key.true)
-    (rw (c.same_name.ensures, c.name_at.ensures, c.place_in.ensures, c.table_of-table.ensures, c.holder_of.ensures))
+    (rw (c.same_name.ensures, c.name_at.ensures, c.place_in.ensures, c.held_by-table.ensures, c.holder_of.ensures))
 
 pub returns : goal.returns
 returns c = rw (ne_eqb _ _ c.if-line-key.false)

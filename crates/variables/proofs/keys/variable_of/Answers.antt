@@ -4,4 +4,4 @@ use Rattle.variables.proofs.keys.variable_of.Goals as goal
 
 pub returns : goal.returns
 unfolding record_by
-returns c = rw (c.variable_at.ensures, c.place_in.ensures, c.table_of.ensures, c.holder_of-holder.ensures)
+returns c = rw (c.variable_at.ensures, c.place_in.ensures, c.held_by.ensures, c.holder_of-holder.ensures)

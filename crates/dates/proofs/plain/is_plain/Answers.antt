@@ -1,9 +1,0 @@
--- `is_plain` meets its contract: its tests are the definition's.
-use borrow.Author.Tests.{ne_eqb}
-use Rattle.dates.proofs.plain.is_plain.Goals as goal
-
-pub returns-then-c-eq0 : goal.returns-then-c-eq0
-returns-then-c-eq0 c = rw c.if-c-eq0.true
-
-pub returns : goal.returns
-returns c = rw (ne_eqb _ 0 c.if-c-eq0.false)

@@ -1,6 +1,0 @@
--- `value_of` meets its contract: the part lies in the table that holds the variable.
-
-use Rattle.variables.proofs.both.value_of.Goals as goal
-
-pub returns : goal.returns
-returns c = rw (c.part.ensures, c.table_of.ensures)

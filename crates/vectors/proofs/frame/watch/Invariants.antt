@@ -1,6 +1,0 @@
--- `watch` ends: what is left of the bytes falls.
-use Rattle.std.proofs.Common.{length, ◌-◌}
-use Rattle.vectors.proofs.frame.watch.Given as goal
-
-abbrev pub decreases-loop-at : goal.decreases-loop-at
-decreases-loop-at g l = length l.kept - l.at
