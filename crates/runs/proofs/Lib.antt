@@ -1,3 +1,2 @@
 -- What the proofs of runs share.
 pub mod StretchLaws
-pub mod Laid
