@@ -1,6 +1,6 @@
 // The operators of expressions, by how tightly they bind, and which stand before one operand.
 ghost use Rattle.std.specs.Prelude.{◌≡◌};
-ghost use Rattle.arithmetic.specs.Operators.{level_of, number_of, stands_alone, divides};
+ghost use Rattle.arithmetic.specs.Operators.{level_of, level_number, number_of, stands_alone, divides};
 
 #[derive(Clone, Copy)]
 pub enum Product {
@@ -52,6 +52,21 @@ pub enum Operator {
     Relation(Relation),
     And,
     Either(Either),
+}
+
+impl Level {
+    // 1 for the tightest.
+    pub fn number(self) -> u8
+        ensures { result ≡ level_number self }
+    {
+        match self {
+            Level::Term => 1,
+            Level::Sum => 2,
+            Level::Relation => 3,
+            Level::Conjunction => 4,
+            Level::Disjunction => 5,
+        }
+    }
 }
 
 impl Operator {

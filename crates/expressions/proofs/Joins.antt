@@ -5,9 +5,7 @@ use mathlib.Core.Path.{◌≡◌, refl, sym, ap, ◌∙◌}
 use Prim.Native.Nat.{ℕ, zero, suc}
 use lib.Dec.{eqb}
 use Rattle.std.specs.Prelude.{Result, Ok, Err}
-use Rattle.paper.specs.Refusals.{refusal_of, refusal_by}
-use Rattle.paper.specs.Traces.{fault_number, Trace, Run, finished, refused, run, ended as end_at, faults}
-use Rattle.paper.specs.declared.faults.Fault.{Fault}
+use Rattle.paper.specs.Traces.{Trace, Run, finished, refused, run, ended as end_at, faults}
 use Rattle.paper.specs.declared.faults.Fault.TheVariants.{BadExpression, ZeroDivisor}
 use Rattle.paper.specs.declared.refusals.Refusal.TheVariants as Why
 use Rattle.paper.specs.declared.refusals.Refused.{Refused}
@@ -20,7 +18,7 @@ use Rattle.expressions.specs.Trees.{Tree, constant, variable, unary, binary, Par
 use Rattle.expressions.specs.Evaluations.{name_steps, divided, tree_value, steps, evaluation, result}
 use Rattle.expressions.specs.Answers.{Evaluated, evaluated_by}
 use Rattle.expressions.specs.declared.NotEvaluated.TheVariants as Not
-use Rattle.parts.specs.inner.Steps.{Account, Outcome, refused_at, account_of, covered_outcome, covered_part, applied_outcome, joined_outcome, end_behind}
+use Rattle.parts.specs.inner.Steps.{Account, Outcome, refused_at, account_of, covered_outcome, covered_part, applied_outcome, joined_outcome, up_to_by, part_up_to}
 use Rattle.expressions.specs.inner.Steps.{outcome_by, outcome_of, part_of}
 use Rattle.arithmetic.specs.declared.operators.Operator.{Operator}
 use Rattle.parts.specs.declared.behind.Wanted.{Wanted}
@@ -31,12 +29,8 @@ abbrev pub covered_result : Operator → Result Part Refused → Result Part Ref
 covered_result operator (Ok part) = Ok (covered_part operator part)
 covered_result operator (Err refusal) = Err refusal
 
-abbrev pub ended_by : Outcome → Result ℕ Refused → Result Part Refused
-ended_by outcome (Ok end) = Ok (record { outcome = outcome; next = end })
-ended_by outcome (Err refusal) = Err refusal
-
 abbrev pub ended_result : List ℕ → Wanted → Result Part Refused → Result Part Refused
-ended_result text wanted (Ok part) = ended_by part.outcome (end_behind text wanted part.next)
+ended_result text wanted (Ok part) = part_up_to text wanted part
 ended_result text wanted (Err refusal) = Err refusal
 
 abbrev pub value_of : Outcome → ℕ → Evaluated
@@ -148,7 +142,7 @@ module _ (names : List ℕ → Meaning) where
       behind : Lexeme
       behind = token_at text at
 
-      either_way : (b : Bool) → ended_by (outcome_of names account inner) (cond b (Ok behind.next) (Err (refused_at Why.BadExpression behind.place)))
+      either_way : (b : Bool) → up_to_by (record { outcome = outcome_of names account inner; next = at }) (cond b (Ok behind.next) (Err (refused_at Why.BadExpression behind.place)))
           ≡ part_of names account (cond b (tree inner behind.next) (faulty BadExpression behind.place))
       either_way true = refl
       either_way false = refl

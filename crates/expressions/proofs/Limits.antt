@@ -3,13 +3,13 @@ use mathlib.Core.Bool.{◌&&◌}
 use mathlib.Core.List.Memᴰ
 use mathlib.Core.List.Memᴰ.{head}
 use mathlib.Core.List.{List, Memᴰ}
-use mathlib.Core.Path.{◌≡◌, refl, sym, ap, subst, ◌∙◌}
+use mathlib.Core.Path.{◌≡◌, refl, sym, subst}
 use Prim.Native.Nat.{ℕ, zero, suc, ◌≤◌}
 use native.Mathlib.Omega.{arith}
 use lib.Dec.{eqb}
 use lib.ListN.{length}
-use Rattle.paper.specs.Refusals.{no_digit, bad_base, too_big, unknown_name, too_deep, allowance_spent, bad_expression, zero_divisor, not_an_integer, over_length, longest, refusal_number, refusal_of}
-use Rattle.paper.specs.Traces.{fault_number, Trace, ended as end_at, faults, gives, asks, spends, enters, Run, finished, refused, onward, run, run_place, allowed}
+use Rattle.paper.specs.Refusals.{no_digit, bad_base, too_big, unknown_name, too_deep, allowance_spent, bad_expression, zero_divisor, not_an_integer, over_length, longest, refusal_number}
+use Rattle.paper.specs.Traces.{fault_number, Trace, ended as end_at, Run, finished, refused, run, run_place, allowed}
 use Rattle.paper.specs.declared.refusals.Refusal.{Refusal}
 use Rattle.paper.specs.declared.faults.Fault.{Fault}
 use Rattle.paper.specs.declared.faults.Fault.TheVariants.{TooDeep, BadExpression}

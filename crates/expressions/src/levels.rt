@@ -9,8 +9,8 @@ ghost use Rattle.expressions.specs.inner.Steps.{part_of};
 
 use arithmetic::operators::Level;
 use paper::refusals::{Refusal, Refused};
-use parts::behind::{Wanted, end_behind, operator_behind};
-use parts::{Account, Part, covered, joined, refused};
+use parts::behind::{Wanted, binding_behind, end_behind};
+use parts::{Account, Part, bad, covered, joined, moved_to, refused, too_deep};
 use tokens::Token;
 use variables::both::Tables;
 
@@ -40,23 +40,23 @@ fn operand(source: &Source<'_>, levels: u8, at: usize, account: Account) -> Resu
         }
         Token::Operator(operator) => {
             if !operator.stands_alone() {
-                return Err(refused(Refusal::BadExpression, place));
+                return Err(bad(place));
             }
             if levels == 0 {
-                return Err(refused(Refusal::TooDeep, place));
+                return Err(too_deep(place));
             }
             let inner = operand(source, levels - 1, next, account)?;
             Ok(covered(operator, inner))
         }
         Token::Open => {
             if levels == 0 {
-                return Err(refused(Refusal::TooDeep, place));
+                return Err(too_deep(place));
             }
             let inner = disjunction(source, levels - 1, next, account)?;
-            let next = end_behind(source.text, Wanted::ClosingBracket, inner.next)?;
-            Ok(Part { next, ..inner })
+            let end = end_behind(source.text, Wanted::ClosingBracket, inner.next)?;
+            Ok(moved_to(inner, end))
         }
-        Token::End | Token::Close | Token::Strange => Err(refused(Refusal::BadExpression, place)),
+        Token::End | Token::Close | Token::Strange => Err(bad(place)),
     }
 }
 
@@ -66,7 +66,7 @@ fn term(source: &Source<'_>, levels: u8, at: usize, account: Account) -> Result<
     ensures { result ≡ part_of (names_of source.now.tables.farm.now source.now.tables.house.now) account (level_at source.now.text.now 1 (operand_at source.now.text.now levels) at) }
 {
     let mut lhs = operand(source, levels, at, account)?;
-    while let Some(binding) = operator_behind(source.text, Level::Term, lhs.next) {
+    while let Some(binding) = binding_behind(source.text, Level::Term, lhs.next) {
         let rhs = operand(source, levels, binding.next, lhs.account())?;
         lhs = joined(binding, lhs, rhs);
     }
@@ -79,7 +79,7 @@ fn sum(source: &Source<'_>, levels: u8, at: usize, account: Account) -> Result<P
     ensures { result ≡ part_of (names_of source.now.tables.farm.now source.now.tables.house.now) account (level_at source.now.text.now 2 (operand_at source.now.text.now levels) at) }
 {
     let mut lhs = term(source, levels, at, account)?;
-    while let Some(binding) = operator_behind(source.text, Level::Sum, lhs.next) {
+    while let Some(binding) = binding_behind(source.text, Level::Sum, lhs.next) {
         let rhs = term(source, levels, binding.next, lhs.account())?;
         lhs = joined(binding, lhs, rhs);
     }
@@ -92,7 +92,7 @@ fn relation(source: &Source<'_>, levels: u8, at: usize, account: Account) -> Res
     ensures { result ≡ part_of (names_of source.now.tables.farm.now source.now.tables.house.now) account (level_at source.now.text.now 3 (operand_at source.now.text.now levels) at) }
 {
     let mut lhs = sum(source, levels, at, account)?;
-    while let Some(binding) = operator_behind(source.text, Level::Relation, lhs.next) {
+    while let Some(binding) = binding_behind(source.text, Level::Relation, lhs.next) {
         let rhs = sum(source, levels, binding.next, lhs.account())?;
         lhs = joined(binding, lhs, rhs);
     }
@@ -110,7 +110,7 @@ fn conjunction(
     ensures { result ≡ part_of (names_of source.now.tables.farm.now source.now.tables.house.now) account (level_at source.now.text.now 4 (operand_at source.now.text.now levels) at) }
 {
     let mut lhs = relation(source, levels, at, account)?;
-    while let Some(binding) = operator_behind(source.text, Level::Conjunction, lhs.next) {
+    while let Some(binding) = binding_behind(source.text, Level::Conjunction, lhs.next) {
         let rhs = relation(source, levels, binding.next, lhs.account())?;
         lhs = joined(binding, lhs, rhs);
     }
@@ -128,7 +128,7 @@ pub(crate) fn disjunction(
     ensures { result ≡ part_of (names_of source.now.tables.farm.now source.now.tables.house.now) account (level_at source.now.text.now 5 (operand_at source.now.text.now levels) at) }
 {
     let mut lhs = conjunction(source, levels, at, account)?;
-    while let Some(binding) = operator_behind(source.text, Level::Disjunction, lhs.next) {
+    while let Some(binding) = binding_behind(source.text, Level::Disjunction, lhs.next) {
         let rhs = conjunction(source, levels, binding.next, lhs.account())?;
         lhs = joined(binding, lhs, rhs);
     }

@@ -11,7 +11,7 @@ mod levels;
 use levels::Source;
 use paper::refusals::{BadTableOf, Refusal, Refused};
 use paper::{LONGEST, TextPlace};
-use parts::behind::{Wanted, end_behind};
+use parts::behind::{Wanted, up_to};
 use parts::refused;
 use variables::both;
 use variables::both::Tables;
@@ -55,11 +55,11 @@ fn evaluate_over(source: &Source<'_>, left: u32) -> Result<Value, NotEvaluated>
     ensures { result ≡ evaluated_by (run (reading_of source.now.text.now source.now.tables.farm.now source.now.tables.house.now) left) (value_in source.now.text.now source.now.tables.farm.now source.now.tables.house.now) }
 {
     let part = levels::disjunction(source, LEVELS, 0, Ok(left))?;
-    let end = end_behind(source.text, Wanted::TextEnd, part.next)?;
-    let valued = part.outcome?;
+    let whole = up_to(source.text, part, Wanted::TextEnd)?;
+    let valued = whole.outcome?;
     Ok(Value {
         pattern: valued.pattern,
-        end: TextPlace(end),
+        end: TextPlace(whole.next),
     })
 }
 

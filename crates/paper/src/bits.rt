@@ -1,5 +1,5 @@
 // Sets of small numbers, in memory of a fixed size: a bit for each number, 32 to a word.
-ghost use Rattle.std.specs.Prelude.{◌≡◌, ℕ, false, ◌||◌, ◌*◌, ◌<◌, eqb};
+ghost use Rattle.std.specs.Prelude.{◌≡◌, ℕ, false, ◌||◌, ◌*◌, ◌<◌, ◌≤◌, eqb};
 ghost use Rattle.paper.specs.inner.Bits.{holds};
 
 // Some of the numbers below 32 * WORDS.
@@ -16,20 +16,23 @@ impl<const WORDS: usize> Bits<WORDS> {
         Bits { words: [0; WORDS] }
     }
 
+    // No number beyond those of the set is in it.
     #[tactic(auto, unfolding(crate::specs::inner::Bits::holds))]
     pub fn has(&self, number: u32) -> bool
-        requires { number < 32 * WORDS }
         ensures { result ≡ holds self.now.words number }
     {
-        let word = self.words[(number / 32) as usize];
-        (word >> (number % 32)) % 2 == 1
+        let at = (number / 32) as usize;
+        at < WORDS && (self.words[at] >> (number % 32)) % 2 == 1
     }
 
+    // A number beyond those of the set changes nothing.
     pub fn insert(&mut self, number: u32)
-        requires { number < 32 * WORDS }
-        ensures { (other : ℕ) → holds self.new.words other ≡ (eqb other number || holds self.old.words other) }
+        ensures inside { number < 32 * WORDS → (other : ℕ) → holds self.new.words other ≡ (eqb other number || holds self.old.words other) }
+        ensures beyond { 32 * WORDS ≤ number → self.new ≡ self.old }
     {
         let at = (number / 32) as usize;
-        self.words[at] = self.words[at] | (1 << (number % 32));
+        if at < WORDS {
+            self.words[at] = self.words[at] | (1 << (number % 32));
+        }
     }
 }

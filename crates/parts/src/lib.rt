@@ -3,7 +3,9 @@
 #![tactic(auto)]
 
 ghost use Rattle.std.specs.Prelude.{◌≡◌};
-ghost use Rattle.parts.specs.inner.Steps.{refused_at, account_of, covered_part, applied_outcome, joined_outcome, joined_part};
+ghost use Rattle.paper.specs.Refusals.{refusal_by};
+ghost use Rattle.paper.specs.declared.faults.Fault.TheVariants as Fault;
+ghost use Rattle.parts.specs.inner.Steps.{refused_at, account_of, moved_to, covered_part, applied_outcome, joined_outcome, joined_part};
 
 pub mod behind;
 
@@ -11,6 +13,7 @@ use arithmetic::operators::Operator;
 use arithmetic::values;
 use behind::Binding;
 use paper::TextPlace;
+use paper::faults::Fault;
 use paper::refusals::{Refusal, Refused};
 
 // How the evaluation stands: the look-ups that are left, or the first refusal that it met.
@@ -39,6 +42,27 @@ pub fn refused(why: Refusal, place: usize) -> Refused
         why,
         at: TextPlace(place),
     }
+}
+
+// More than 16 unary operators and brackets over one operand.
+pub fn too_deep(place: usize) -> Refused
+    ensures { result ≡ refused_at (refusal_by Fault.TooDeep) place }
+{
+    refused(Refusal::from(Fault::TooDeep), place)
+}
+
+// What no expression has at its place.
+pub fn bad(place: usize) -> Refused
+    ensures { result ≡ refused_at (refusal_by Fault.BadExpression) place }
+{
+    refused(Refusal::from(Fault::BadExpression), place)
+}
+
+// The same part, up to another place.
+pub fn moved_to(part: Part, next: usize) -> Part
+    ensures { result ≡ moved_to next part }
+{
+    Part { next, ..part }
 }
 
 impl Part {
@@ -74,10 +98,12 @@ fn applied(binding: Binding, lhs: Valued, rhs: Valued) -> Outcome
     })
 }
 
+// Where both sides were refused, the right one's refusal is told: behind a refused left side that is the left one's, which was handed on.
 fn joined_outcome(binding: Binding, lhs: Outcome, rhs: Outcome) -> Outcome
     ensures { result ≡ joined_outcome binding.operator binding.place lhs rhs }
 {
-    applied(binding, lhs?, rhs?)
+    let right = rhs?;
+    applied(binding, lhs?, right)
 }
 
 // Two parts and the operator between them; the right one was evaluated behind the left one.

@@ -1,15 +1,18 @@
 -- Every public function beside the eight operations has one answer: its contract says it as a function of what is given.
 use mathlib.Core.Path.{◌≡◌, refl, ap, ap₂, sym, ◌∙◌}
-use mathlib.Core.Bool.{cond, not}
+use mathlib.Core.Bool.{Bool, true, false, cond, not, ◌||◌}
 use mathlib.Core.List.{[], ◌∷◌, ◌++◌}
-use Prim.Native.Nat.{◌+◌, ◌*◌, ◌/◌, ◌%◌, ◌^◌}
-use lib.Dec.{eqb}
+use Prim.Native.Nat.{◌+◌, ◌*◌, ◌/◌, ◌%◌, ◌^◌, ◌<◌, ◌≤◌}
+use borrow.Author.Tests.{ltb-true, ltb-false}
+use lib.Dec.{eqb, ltb}
 use lib.ListN.{length, take, drop, get_or, set}
 use Rattle.std.specs.Prelude.{List, ℕ, Option, Some, None}
 use Rattle.paper.specs.Bytes as Bytes
 use Rattle.paper.specs.Traces.{allowed, fault_number}
 use Rattle.paper.specs.Layings.{laying_of, converted_by}
+use Rattle.paper.specs.inner.Bits.{holds}
 use Rattle.paper.specs.inner.Claims.{claimed_in}
+use Rattle.paper.proofs.Choice.{either}
 use Rattle.forms.specs.Digits.{glyph, digit_count}
 use Rattle.forms.specs.Strings.{radix, bits, Form}
 use Rattle.forms.specs.Calls.{Described, unknown, known, described, decimal_of}
@@ -46,7 +49,8 @@ use Rattle.leaves.specs.Leaves.{number_part, named_part}
 use Rattle.parts.specs.declared.behind.Binding.{Binding}
 use Rattle.arithmetic.specs.declared.operators.Level.{Level}
 use Rattle.arithmetic.specs.declared.operators.Level.TheVariants as Levels
-use Rattle.paper.specs.Refusals.{refusal_number}
+use Rattle.paper.specs.Refusals.{refusal_number, refusal_by}
+use Rattle.paper.specs.declared.faults.Fault.TheVariants as Faults
 use Rattle.gs.specs.Translations.{translated, out_after, translated_answer}
 use Rattle.arithmetic.specs.Operators as Operators
 use Rattle.arithmetic.specs.Values.{unary_value, binary_value}
@@ -61,6 +65,17 @@ function_of : {Lifetimes Arguments Answer After Given Seen : Type 0} {Learnt : L
     → ((κs : Lifetimes) (a : Arguments) (r : Answer) (after : After) → Learnt κs a r after → seen r after ≡ f (given a)) → One Learnt given seen
 function_of f is =
     record { one = λ κs κs' a a' r r' after after' same c c'. is κs a r after c ∙ ap f same ∙ sym (is κs' a' r' after' c') }
+
+-- whether a set has a number once another, if it is one of the set's, is put in
+put_in : ℕ → List ℕ → ℕ → ℕ → Bool
+put_in size set number other = cond (ltb number (32 * size)) (eqb other number || holds set other) (holds set other)
+
+put_in_so : (size : ℕ) (set after : List ℕ) (number other : ℕ) → (number < 32 * size → (other : ℕ) → holds after other ≡ (eqb other number || holds set other))
+    → (32 * size ≤ number → after ≡ set) → holds after other ≡ put_in size set number other
+unfolding put_in
+put_in_so size set after number other inside beyond =
+    either (λ b. holds after other ≡ b) (ltb number (32 * size)) (λ t. inside (ltb-true number (32 * size) t) other)
+    (λ f. ap (λ s. holds s other) (beyond (ltb-false number (32 * size) f)))
 
 -- the family of a form, as the code has it
 family_in : Base → Form → Family
@@ -130,6 +145,11 @@ determined =
       claim =
           function_of (λ (characters, (terminated, (buf, _))). (converted_by (laying_of characters terminated (length buf)), claimed_in characters terminated buf))
           (λ κs a r after c. ap₂ (λ r out. (r, out)) c.0 c.1);
+      bits_none = λ words fits number. function_of (λ _. false) (λ κs a r after c. c number);
+      bits_has = λ words fits. function_of (λ (set, (number, _)). holds set.words number) (λ κs a r after c. c);
+      bits_insert =
+          λ words fits other. function_of (λ (set, (number, _)). put_in words set.words number other) (λ κs a r after c. put_in_so words _ _ _ other c.0 (λ h. ap (λ s. s.words) (c.1 h)));
+      byte_inside = function_of (λ (text, (at, (further, _))). get_or text (at + further) 0) (λ κs a r after c. c);
       family_of = function_of (λ (call, _). family_by (described call)) (λ κs a r after c. family_back r ∙ ap family_by c);
       count_decimal = function_of (λ (n, _). digit_count 10 n) (λ κs a r after c. c.0);
       base_shrink = function_of (λ (base, (n, _)). n / radix base) (λ κs a r after c. c);
@@ -182,6 +202,7 @@ determined =
       copy = function_of (λ (given, (to, (out, _))). (tt, laid_at out to given)) (λ κs a r after c. ap (λ out. (tt, out)) c);
       resolve = function_of (λ (content, (farm, (house, (keys, (index, _))))). referred_by farm house keys index content) (λ κs a r after c. c);
       level = function_of (λ (operator, _). level_by (Operators.level_of operator)) (λ κs a r after c. level_back r ∙ ap level_by c);
+      level_number = function_of (λ (level, _). Operators.level_number level) (λ κs a r after c. c);
       stands_alone = function_of (λ (operator, _). Operators.stands_alone operator) (λ κs a r after c. c);
       divides = function_of (λ (operator, _). Operators.divides operator) (λ κs a r after c. c);
       unary = function_of (λ (operator, (v, _)). unary_value operator v) (λ κs a r after c. c);
@@ -189,10 +210,15 @@ determined =
       token_at =
           function_of (λ (text, (at, _)). let l = token_at text at in record { token = l.token; place = l.place; next = l.next })
           (λ κs a r after c. ap (λ (l : Lexeme). record { token = l.token; place = l.place; next = l.next }) c);
-      operator_behind =
+      operator_behind = function_of (λ (text, (level, (at, _))). behind_by (link_at text level at)) (λ κs a r after c. behind_back r ∙ ap behind_by c);
+      binding_behind =
           function_of (λ (text, (level, (at, _))). behind_by (link_at text (Operators.level_number level) at))
           (λ κs a r after c. behind_back r ∙ ap behind_by c);
       end_behind = function_of (λ (text, (wanted, (at, _))). Parts.end_behind text wanted at) (λ κs a r after c. c);
+      up_to = function_of (λ (text, (part, (wanted, _))). Parts.part_up_to text wanted part) (λ κs a r after c. c);
+      too_deep_part = function_of (λ (place, _). Parts.refused_at (refusal_by Faults.TooDeep) place) (λ κs a r after c. c);
+      bad_part = function_of (λ (place, _). Parts.refused_at (refusal_by Faults.BadExpression) place) (λ κs a r after c. c);
+      moved_to = function_of (λ (part, (next, _)). Parts.moved_to next part) (λ κs a r after c. c);
       refused_part = function_of (λ (why, (place, _)). Parts.refused_at why place) (λ κs a r after c. c);
       account_of = function_of (λ (part, _). Parts.account_of part.outcome) (λ κs a r after c. c);
       covered_part = function_of (λ (operator, (part, _)). Parts.covered_part operator part) (λ κs a r after c. c);

@@ -1,7 +1,6 @@
 -- That the public functions beside the eight operations and `look_up_value` have one answer too, each by its own contract as a caller learns it.
 -- Those have it in their pages. `filter`'s `run` has it not: its contract leaves open what was read.
--- Not repeated here are the contracts of `Bits`, `run_end` and `Inside`'s `byte`, which hold of every size or type, and those of the `From`s: equations too, but for
--- `insert`, which says what each number is then.
+-- Not repeated here are the contract of `run_end`, which holds over every type that says what ends a run, and those of the `From`s: equations too.
 use Rattle.std.specs.Prelude.{◌≡◌, List, ℕ, Option}
 use Rattle.std.specs.Borrow.{Bor, MutBor}
 use Rattle.indexes.specs.Indexes.{Given, given_as}
@@ -19,6 +18,12 @@ use Rattle.paper.proofs.refusals.Refusal.number.Reads as refusal_number
 use Rattle.paper.proofs.one_if.Reads as one_if
 use Rattle.paper.proofs.layings.put_if.Reads as put_if
 use Rattle.paper.proofs.layings.claim.Reads as claim
+use Rattle.paper.proofs.inside.Inside.byte.Reads as byte_inside
+use Rattle.paper.proofs.bits.Bits.has.Reads as bits_has
+use Rattle.paper.proofs.bits.Bits.none.Reads as bits_none
+use Rattle.paper.proofs.bits.Bits.insert.Reads as bits_insert
+use Rattle.paper.specs.declared.inside.Inside.{Inside}
+use Rattle.paper.specs.inner.Bits.{holds}
 use Rattle.forms.proofs.calls.family_of.Reads as family_of
 use Rattle.forms.proofs.counts.count_decimal.Reads as count_decimal
 use Rattle.forms.proofs.forms.Base.shrink.Reads as base_shrink
@@ -51,6 +56,7 @@ use Rattle.symbols.proofs.flags.Flags.of.Reads as flags_of
 use Rattle.symbols.proofs.flags.Flags.none.Reads as flags_none
 use Rattle.symbols.proofs.flags.Flags.has.Reads as flags_has
 use Rattle.arithmetic.proofs.operators.Operator.level.Reads as level
+use Rattle.arithmetic.proofs.operators.Level.number.Reads as level_number
 use Rattle.arithmetic.proofs.operators.Operator.stands_alone.Reads as stands_alone
 use Rattle.arithmetic.proofs.operators.Operator.divides.Reads as divides
 use Rattle.arithmetic.proofs.values.unary.Reads as unary
@@ -64,9 +70,14 @@ use Rattle.runs.proofs.output.copy.Reads as copy
 use Rattle.references.proofs.resolve.Reads as resolve
 use Rattle.tokens.proofs.token_at.Reads as token_at
 use Rattle.parts.proofs.behind.operator_behind.Reads as operator_behind
+use Rattle.parts.proofs.behind.binding_behind.Reads as binding_behind
 use Rattle.parts.proofs.behind.end_behind.Reads as end_behind
+use Rattle.parts.proofs.behind.up_to.Reads as up_to
 use Rattle.parts.proofs.refused.Reads as refused_part
+use Rattle.parts.proofs.too_deep.Reads as too_deep_part
+use Rattle.parts.proofs.bad.Reads as bad_part
 use Rattle.parts.proofs.Part.account.Reads as account_of
+use Rattle.parts.proofs.moved_to.Reads as moved_to
 use Rattle.parts.proofs.covered.Reads as covered_part
 use Rattle.parts.proofs.joined.Reads as joined_part
 use Rattle.leaves.proofs.number.Reads as leaf_number
@@ -101,6 +112,10 @@ lent_index behind a = (given_as a.0, behind a.1)
 abbrev pub lent_tables : {A B : Type 0} → (A → B) → Bor Tables × A → List ℕ × (List ℕ × B)
 lent_tables behind a = (a.0.now.farm.now, (a.0.now.house.now, behind a.1))
 
+-- a place inside a text that is lent: the text's bytes, and the place
+abbrev pub lent_inside : {A B : Type 0} → (A → B) → Bor Inside × A → List ℕ × (ℕ × B)
+lent_inside behind a = (a.0.now.text.now, (a.0.now.at, behind a.1))
+
 abbrev pub lent_out : {X A B : Type 0} → (A → B) → MutBor X × A → X × B
 lent_out behind a = (a.0.now, behind a.1)
 
@@ -133,6 +148,11 @@ pub record Determined : Type 0 where
   pub one_if : One one_if.Learnt rest answer_alone
   pub put_if : One put_if.Learnt (plain (plain (plain (lent_out rest)))) (answer_and (λ (wanted, (byte, (at, (buf, _)))). buf))
   pub claim : One claim.Learnt (plain (plain (lent_out rest))) (answer_and (λ (characters, (terminated, (buf, _))). buf))
+  -- sets of every size that 64 bits hold: what is seen of one is whether it has a number, whichever
+  pub bits_none : (words : ℕ) (fits : _) (number : ℕ) → One (bits_none.Learnt words fits) rest (λ r after. holds r.words number)
+  pub bits_has : (words : ℕ) (fits : _) → One (bits_has.Learnt words fits) (lent rest) answer_alone
+  pub bits_insert : (words : ℕ) (fits : _) (other : ℕ) → One (bits_insert.Learnt words fits) (lent_out rest) (λ r (set, _). holds set.now.words other)
+  pub byte_inside : One byte_inside.Learnt (lent_inside rest) answer_alone
   -- forms
   pub family_of : One family_of.Learnt rest answer_alone
   pub count_decimal : One count_decimal.Learnt rest answer_alone
@@ -184,6 +204,7 @@ pub record Determined : Type 0 where
   pub resolve : One resolve.Learnt (lent (lent_tables (lent (lent rest)))) answer_alone
   -- arithmetic
   pub level : One level.Learnt rest answer_alone
+  pub level_number : One level_number.Learnt rest answer_alone
   pub stands_alone : One stands_alone.Learnt rest answer_alone
   pub divides : One divides.Learnt rest answer_alone
   pub unary : One unary.Learnt rest answer_alone
@@ -192,8 +213,13 @@ pub record Determined : Type 0 where
   pub token_at : One token_at.Learnt (lent rest) answer_alone
   -- parts
   pub operator_behind : One operator_behind.Learnt (lent rest) answer_alone
+  pub binding_behind : One binding_behind.Learnt (lent rest) answer_alone
   pub end_behind : One end_behind.Learnt (lent rest) answer_alone
+  pub up_to : One up_to.Learnt (lent rest) answer_alone
   pub refused_part : One refused_part.Learnt rest answer_alone
+  pub too_deep_part : One too_deep_part.Learnt rest answer_alone
+  pub bad_part : One bad_part.Learnt rest answer_alone
+  pub moved_to : One moved_to.Learnt rest answer_alone
   pub account_of : One account_of.Learnt rest answer_alone
   pub covered_part : One covered_part.Learnt rest answer_alone
   pub joined_part : One joined_part.Learnt rest answer_alone

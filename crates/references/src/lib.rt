@@ -6,13 +6,14 @@ ghost use Rattle.variables.specs.inner.Keys.{match_as};
 ghost use Rattle.lookups.specs.inner.Through.{sought_through};
 ghost use Rattle.references.specs.References.{kinded, matched_as, referred_by};
 
-use lookups::find;
+use indexes::search;
 use paper::GREATEST_CODE;
 use paper::refusals::Refusal;
 use reader::NO_LIMIT;
 use records::Variable;
 use records::kinds::Kind;
 use variables::both::Tables;
+use variables::keys::find;
 
 // What a reference's content stands for. No Result: whoever follows a reference has one match with an arm for each of these, where a Result
 // of what it means and why it means nothing would take two types and a match in a match.
@@ -39,11 +40,14 @@ impl From<Variable> for Referred {
     }
 }
 
-// The name path.
+// The name path. A name is sought in the keys and the index here, and not by way of a function that looks at both: that would be a call and a
+// copy more for each reference.
 fn as_name(content: &[u8], tables: &Tables<'_>, keys: &[u32], index: &[u8]) -> Referred
     ensures { result ≡ matched_as (match_as tables.now.farm.now tables.now.house.now (sought_through tables.now.farm.now tables.now.house.now keys.now index.now content.now)) }
 {
-    find(tables, keys, index, content).map_or(Referred::Unknown, Referred::from)
+    find(tables, keys, content)
+        .or_else(|| search(tables.house, index, content))
+        .map_or(Referred::Unknown, Referred::from)
 }
 
 // What the content of a reference stands for, over two tables, some keys and an index: a value becomes a byte, and over 255 it is refused;

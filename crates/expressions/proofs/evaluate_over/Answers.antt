@@ -13,7 +13,7 @@ use Rattle.expressions.specs.Answers.{Evaluated, reading_of, value_in, evaluated
 use Rattle.expressions.specs.inner.Steps.{part_of}
 use Rattle.parts.specs.declared.behind.Wanted.TheVariants.{TextEnd}
 use Rattle.parts.specs.declared.Part.{Part}
-use Rattle.expressions.proofs.Joins.{ended_by, ended_result, value_of, answer_of, part_ended, part_answer}
+use Rattle.expressions.proofs.Joins.{ended_result, value_of, answer_of, part_ended, part_answer}
 use Rattle.expressions.proofs.evaluate_over.Goals as goal
 
 evaluated_whole : (text farm house : List ℕ) (left : ℕ) (part last : Result Part Refused) (r : Evaluated)
@@ -30,18 +30,18 @@ returns-in_err-part c =
     let p = err_from_is_err_and c.from_residual.result c.from_residual.ensures.1 in
     evaluated_whole _ _ _ _ _ _ _ c.in_err-part.ensures refl (p.1 ∙ ap Err p.2)
 
-pub returns-in_err-end : goal.returns-in_err-end
-returns-in_err-end c =
-    let p = err_from_is_err_and c.from_residual-in_err-end.result c.from_residual-in_err-end.ensures.1 in
-    evaluated_whole _ _ _ _ _ _ _ c.in_ok-part.ensures (ap (ended_by c.in_ok-part.part.outcome) c.in_err-end.ensures) (p.1 ∙ ap Err p.2)
+pub returns-in_err-whole : goal.returns-in_err-whole
+returns-in_err-whole c =
+    let p = err_from_is_err_and c.from_residual-in_err-whole.result c.from_residual-in_err-whole.ensures.1 in
+    evaluated_whole _ _ _ _ _ _ _ c.in_ok-part.ensures c.in_err-whole.ensures (p.1 ∙ ap Err p.2)
 
 pub returns-in_err-valued : goal.returns-in_err-valued
 returns-in_err-valued c =
     let p = err_from_is_err_and c.from_residual-in_err-valued.result c.from_residual-in_err-valued.ensures.1 in
-    evaluated_whole _ _ _ _ _ _ _ c.in_ok-part.ensures (ap (ended_by c.in_ok-part.part.outcome) c.in_ok-end.ensures)
-    (p.1 ∙ ap Err p.2 ∙ ap (λ outcome. value_of outcome c.in_ok-end.end) (sym c.in_err-valued.was))
+    evaluated_whole _ _ _ _ _ _ _ c.in_ok-part.ensures c.in_ok-whole.ensures
+    (p.1 ∙ ap Err p.2 ∙ ap (λ outcome. value_of outcome c.in_ok-whole.whole.next) (sym c.in_err-valued.was))
 
 pub returns : goal.returns
 returns c =
-    evaluated_whole _ _ _ _ _ _ _ c.in_ok-part.ensures (ap (ended_by c.in_ok-part.part.outcome) c.in_ok-end.ensures)
-    (ap (λ outcome. value_of outcome c.in_ok-end.end) (sym c.in_ok-valued.was))
+    evaluated_whole _ _ _ _ _ _ _ c.in_ok-part.ensures c.in_ok-whole.ensures
+    (ap (λ outcome. value_of outcome c.in_ok-whole.whole.next) (sym c.in_ok-valued.was))

@@ -83,7 +83,7 @@ loop-place-preserved c =
     record {
       few = omega arith;
       counted = i.counted ∙ more _ _ _ test i.few not_full (sym c.is_shaped.ensures ∙ c.if-not-is_shaped.false) on;
-      marked = λ p. i.marked p ∙ marks_more _ _ _ test i.few not_full _ _ c.insert.ensures on p;
+      marked = λ p. i.marked p ∙ marks_more _ _ _ test i.few not_full _ _ (c.insert.ensures.inside (omega arith)) on p;
     }
 
 pub returns-clause-count : goal.returns-clause-count
