@@ -99,10 +99,15 @@ fn slot_in(table: &[u8], index: &[u8], count: u32, name: &[u8]) -> u32
     near + 1
 }
 
-// Two bytes of room at a place: what stands between it and `end` goes up by two.
+// Two bytes of room at a place: what stands between it and `end` goes up by two, the last byte first. No `copy_within`, of which the compiler
+// makes a call of C's `memmove`: an archive for C needs nothing of the C library but `memcpy` and `memset` (include/nosgoludd.h).
 fn open_gap(out: &mut [u8], from: usize, end: usize)
     requires { (from ≤ end) × (end + 2 ≤ length out.old) }
     ensures { out.new ≡ gap_in from end out.old }
 {
-    out.copy_within(from..end, from + 2);
+    let mut at = end;
+    while from < at {
+        out[at + 1] = out[at - 1];
+        at -= 1;
+    }
 }
