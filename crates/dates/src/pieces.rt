@@ -1,7 +1,7 @@
 // The pieces of a format: bytes that are copied, percent signs and fields.
 ghost use Rattle.std.specs.Prelude.{◌≡◌, ◌≤◌, length};
 ghost use Rattle.paper.specs.Refusals.{longest};
-ghost use Rattle.dates.specs.Fields.{pair, field_named};
+ghost use Rattle.dates.specs.Fields.{field_named};
 ghost use Rattle.dates.specs.Formats.{behind_percent, piece_at};
 
 use crate::fields::Field;
@@ -21,23 +21,24 @@ pub enum Piece {
     Bad,
 }
 
-// The field that two characters name.
+// The field that two characters name, the first being the high byte: one number, which the compiler tells apart by comparisons. Of a match of
+// both characters it made a jump by the first, and a format of percent signs took four times as long, one of fields up to 1.8 times.
 #[tactic(auto, unfolding(crate::specs::Fields::field_named, crate::specs::Fields::date_field))]
-fn field_named(first: u8, second: u8) -> Option<Field>
-    ensures { result ≡ field_named (pair first second) }
+fn field_named(name: u32) -> Option<Field>
+    ensures { result ≡ field_named name }
 {
-    match (first, second) {
-        (b'C', b'S') => Some(Field::Hundredths),
-        (b'S', b'E') => Some(Field::Seconds),
-        (b'M', b'I') => Some(Field::Minutes),
-        (b'2', b'4') => Some(Field::Hours),
-        (b'D', b'Y') => Some(Field::Day),
-        (b'M', b'N') => Some(Field::Month),
-        (b'M', b'3') => Some(Field::MonthName),
-        (b'C', b'E') => Some(Field::Century),
-        (b'Y', b'R') => Some(Field::Year),
-        (b'D', b'N') => Some(Field::DayOfYear),
-        (b'W', b'3') => Some(Field::WeekdayName),
+    match name {
+        0x4353 => Some(Field::Hundredths),
+        0x5345 => Some(Field::Seconds),
+        0x4D49 => Some(Field::Minutes),
+        0x3234 => Some(Field::Hours),
+        0x4459 => Some(Field::Day),
+        0x4D4E => Some(Field::Month),
+        0x4D33 => Some(Field::MonthName),
+        0x4345 => Some(Field::Century),
+        0x5952 => Some(Field::Year),
+        0x444E => Some(Field::DayOfYear),
+        0x5733 => Some(Field::WeekdayName),
         _ => None,
     }
 }
@@ -49,7 +50,7 @@ fn behind_percent(a: u8, b: u8) -> Piece
     if a == b'%' {
         return Piece::Percent;
     }
-    match field_named(a, b) {
+    match field_named(256 * u32::from(a) + u32::from(b)) {
         Some(field) => Piece::Shown(field),
         None => Piece::Bad,
     }

@@ -38,16 +38,17 @@ impl<'a> FormattedMoment<'a> {
         ensures answer { result ≡ rendered self.now.moment 0 (layout_of self.now.format.now) }
         ensures buffer { length (string self.now.moment (layout_of self.now.format.now)) ≤ length out.old → out.new ≡ sets out.old 0 (string self.now.moment (layout_of self.now.format.now)) }
     {
+        let format = self.format;
         let mut at = 0;
         let mut to = 0;
         loop {
-            match piece_at(self.format, at) {
+            match piece_at(format, at) {
                 Piece::End => return Ok(to),
                 Piece::Bad => return Err(BadField { at: TextPlace(at) }),
                 Piece::Copied(c) => {
                     if by_runs {
-                        let end = plain_end(self.format, at);
-                        copy(&self.format[at..end], to, out);
+                        let end = plain_end(format, at);
+                        copy(&format[at..end], to, out);
                         to += end - at;
                         at = end;
                     } else {
